@@ -1,0 +1,2 @@
+-- The laws of the packets' check.
+pub mod Laws

@@ -1,0 +1,2 @@
+-- The packets' check.
+pub mod Crc

@@ -1,0 +1,147 @@
+-- When each answer to a frame is given: a refusal where its own fact holds and those of the lower numbers do not. What a good frame is.
+-- Assumes nothing.
+use mathlib.Core.Path.{_≡_, refl, sym, _∙_, ap}
+use mathlib.Core.Bool.{Bool, true, false, not}
+use mathlib.Core.List.{List}
+use mathlib.Core.Logic.{_⊎_}
+use Prim.Native.Nat.{ℕ, _<_}
+use native.Mathlib.Omega.{arith}
+use borrow.Author.Tests.{eq-eqb, ne-eqb, eqb-true, eqb-false, not-false}
+use lib.Dec.{eqb}
+use lib.ListN.{length}
+use Rattle.octets.specs.Choice.{if_then_else_}
+use Rattle.frame.specs.declared.Accepted.{Accepted}
+use Rattle.frame.specs.declared.Channel.{Channel}
+use Rattle.frame.specs.declared.Examined.{Examined}
+use Rattle.frame.specs.declared.Examined.the-variants.{Refused, Good}
+use Rattle.frame.specs.declared.Frame.{Frame}
+use Rattle.frame.specs.declared.Pointer.{Pointer}
+use Rattle.frame.specs.declared.Pointer.the-variants as pointer
+use Rattle.frame.specs.declared.Watch.{Watch}
+use Rattle.frame.specs.declared.Watch.the-variants.{Desk, NotWatched}
+use Rattle.frame.specs.Kinds.{deskOf}
+use Rattle.frame.specs.Header.{marker, startsWith, derandomised, frameOf, pointerMeaning}
+use Rattle.frame.specs.Refusals.{framed, pointed, watchedBy, examinedHeader, examined}
+use Rattle.frame.proofs.Desks.{desk-at}
+use Rattle.frame.proofs.Fields.{bounded}
+use Rattle.frame.proofs.Framing.{framed-is, is-framed}
+use Rattle.frame.proofs.Pointers.{allowed-pointer}
+
+never : {n : ℕ} {a : Accepted} → Refused n ≡ Good a → ⊥
+never e =
+    let z : _≡_ {A = ℕ} 0 1 = cc in
+    omega arith
+
+-- a good answer has passed each test on the way
+passed : (b : Bool) (n : ℕ) (x : Examined) {a : Accepted} → (if b then Refused n else x) ≡ Good a → (b ≡ false) × (x ≡ Good a)
+passed true n x e = absurd (never e)
+passed false n x e = (refl, e)
+
+-- the header h is taken, and a is what is handed on of it
+pub record Accepts (craft : ℕ) (watched : List Channel) (h : Frame) (a : Accepted) : Type 0 where
+  pub version : h .version ≡ 1
+  pub spacecraft : h .spacecraft ≡ craft
+  pub no-fill : h .channel .0 ≡ 63 → ⊥
+  pub desk : deskOf watched (h .channel) ≡ Desk (a .desk)
+  pub allowed : pointerMeaning (h .pointer) ≡ pointer.Refused → ⊥
+  pub counter : a .counter ≡ h .counter
+  pub pointer : a .pointer ≡ h .pointer
+
+module _ (craft : ℕ) (watched : List Channel) (h : Frame) where
+  pub other-version : (h .version ≡ 1 → ⊥) → examinedHeader craft watched h ≡ Refused 5
+  unfolding examinedHeader
+  other-version v = rw (ne-eqb _ _ v)
+
+  module _ (v : h .version ≡ 1) where
+    pub other-spacecraft : (h .spacecraft ≡ craft → ⊥) → examinedHeader craft watched h ≡ Refused 6
+    unfolding examinedHeader
+    other-spacecraft s = rw (eq-eqb _ _ v, ne-eqb _ _ s)
+
+    module _ (s : h .spacecraft ≡ craft) where
+      pub fill : h .channel .0 ≡ 63 → examinedHeader craft watched h ≡ Refused 7
+      unfolding examinedHeader
+      fill f = rw (eq-eqb _ _ v, eq-eqb _ _ s, eq-eqb _ _ f)
+
+      module _ (f : h .channel .0 ≡ 63 → ⊥) where
+        pub not-watched : deskOf watched (h .channel) ≡ NotWatched → examinedHeader craft watched h ≡ Refused 8
+        unfolding examinedHeader
+        not-watched w = rw (eq-eqb _ _ v, eq-eqb _ _ s, ne-eqb _ _ f, w)
+
+        pub pointer-refused : (d : ℕ) → deskOf watched (h .channel) ≡ Desk d → pointerMeaning (h .pointer) ≡ pointer.Refused
+            → examinedHeader craft watched h ≡ Refused 9
+        unfolding examinedHeader
+        pointer-refused d w p = rw (eq-eqb _ _ v, eq-eqb _ _ s, ne-eqb _ _ f, w, p)
+
+  pointed-good : (d : ℕ) (p : Pointer) → (p ≡ pointer.Refused → ⊥) → pointed d h p ≡ Good (record { desk = d; counter = h .counter; pointer = h .pointer })
+  pointed-good d (pointer.Offset q) n = refl
+  pointed-good d pointer.NoStart n = refl
+  pointed-good d pointer.Refused n = absurd (n refl)
+
+  pub accepted : (a : Accepted) → Accepts craft watched h a → examinedHeader craft watched h ≡ Good a
+  unfolding examinedHeader
+  accepted a t =
+      rw (eq-eqb _ _ (t .version), eq-eqb _ _ (t .spacecraft), ne-eqb _ _ (t .no-fill), t .desk)
+      (pointed-good (a .desk) (pointerMeaning (h .pointer)) (t .allowed)
+      ∙ (λ i. Good (record { desk = a .desk; counter = sym (t .counter) i; pointer = sym (t .pointer) i })))
+
+  pub accepts : (a : Accepted) → examinedHeader craft watched h ≡ Good a → Accepts craft watched h a
+  unfolding examinedHeader
+  accepts a e =
+      let v = passed (not (eqb (h .version) 1)) 5 _ e in
+      let s = passed (not (eqb (h .spacecraft) craft)) 6 _ (v .1) in
+      let f = passed (eqb (h .channel .0) 63) 7 _ (s .1) in
+      seated (eqb-true _ _ (not-false _ (v .0))) (eqb-true _ _ (not-false _ (s .0))) (eqb-false _ _ (f .0)) (deskOf watched (h .channel)) refl (f .1)
+    where
+      seated : h .version ≡ 1 → h .spacecraft ≡ craft → (h .channel .0 ≡ 63 → ⊥) → (w : Watch) → deskOf watched (h .channel) ≡ w
+          → watchedBy h w ≡ Good a → Accepts craft watched h a
+      seated v s f NotWatched w g = absurd (never g)
+      seated v s f (Desk d) w g =
+          let allowed : pointerMeaning (h .pointer) ≡ pointer.Refused → ⊥ = λ r. never (sym (ap (pointed d h) r) ∙ g) in
+          let same : a ≡ record { desk = d; counter = h .counter; pointer = h .pointer } = cc (pointed-good d (pointerMeaning (h .pointer)) allowed) in
+          record {
+            version = v;
+            spacecraft = s;
+            no-fill = f;
+            desk = w ∙ ap (λ (x : Accepted). Desk (x .desk)) (sym same);
+            allowed = allowed;
+            counter = ap (λ (x : Accepted). x .counter) same;
+            pointer = ap (λ (x : Accepted). x .pointer) same;
+          }
+
+module _ (craft : ℕ) (watched : List Channel) (f : List ℕ) where
+  pub other-size : (length f ≡ 1024 → ⊥) → examined craft watched f ≡ Refused 3
+  unfolding examined
+  other-size n = rw (ne-eqb _ _ n)
+
+  pub other-marker : length f ≡ 1024 → startsWith marker f ≡ false → examined craft watched f ≡ Refused 4
+  unfolding examined
+  other-marker s m = rw (eq-eqb _ _ s, m)
+
+  pub of-header : framed f ≡ true → examined craft watched f ≡ examinedHeader craft watched (frameOf (derandomised f))
+  unfolding examined
+  of-header e =
+      let t = framed-is f e in
+      rw (eq-eqb _ _ (t .0), t .1)
+
+  module _ (a : Accepted) (e : examined craft watched f ≡ Good a) where
+    pub good-framed : framed f ≡ true
+    unfolding examined
+    good-framed =
+        let s = passed (not (eqb (length f) 1024)) 3 _ e in
+        let m = passed (not (startsWith marker f)) 4 _ (s .1) in
+        is-framed f (eqb-true _ _ (not-false _ (s .0))) (not-false _ (m .0))
+
+    pub good-size : length f ≡ 1024
+    good-size = framed-is f good-framed .0
+
+    pub good-header : Accepts craft watched (frameOf (derandomised f)) a
+    good-header = accepts craft watched (frameOf (derandomised f)) a (sym (of-header good-framed) ∙ e)
+
+    pub desk-good : a .desk < length watched
+    desk-good = desk-at (frameOf (derandomised f) .channel) (record { 0 = 0 }) watched (a .desk) (good-header .desk) .within
+
+    pub counter-good : a .counter .0 < 0x1000000
+    counter-good = rw (good-header .counter) (bounded (derandomised f) .counter)
+
+    pub pointer-good : (a .pointer < 884) ⊎ (a .pointer ≡ 2047)
+    pointer-good = rw (good-header .pointer) (allowed-pointer _ (good-header .allowed))

@@ -1,0 +1,58 @@
+-- `noise::mix` meets its contract. The loop's invariant: what is wanted is what the periods that are left make of the buffer. That the
+-- local table is one period of the sequence is computed. Assumes nothing.
+use mathlib.Core.Path.{_≡_, refl, _∙_}
+use Prim.Native.Nat.{_-_, _%_, _≤_}
+use native.Mathlib.Omega.{arith}
+use lib.ListN.{length, drop}
+use Rattle.octets.specs.Buffer.{put}
+use Rattle.noise.specs.Noise.{mixedFrom, mixed}
+use Rattle.noise.proofs.Rule.{next, later, octets}
+use Rattle.noise.proofs.Mixing.{frame-none, frame-more, frame-all}
+use Rattle.noise.proofs.mix.Statement.{statement}
+use Rattle.noise.proofs.mix.Tie as tie
+
+abbrev Inv-loop : tie.InvT-loop
+Inv-loop from to₀ table at₀ to at =
+    (at ≤ 1020) × (at % 255 ≡ 0) × (length to ≡ 1020) × (mixed from ≡ put to at (mixedFrom at (drop at from)))
+
+abbrev μ-loop : tie.MeasureT-loop
+μ-loop from to₀ table at₀ to at = 1020 - at
+
+loop-holds : tie.Need-loop-holds Inv-loop μ-loop
+loop-holds c = (omega arith, refl, omega arith, frame-none _ _ (omega arith))
+
+mix-period-requires : tie.Need-mix-period-requires Inv-loop μ-loop
+mix-period-requires c κs = (omega arith, omega arith, refl)
+
+add-at : tie.Need-add-at Inv-loop μ-loop
+add-at c = omega arith
+
+loop-less : tie.Need-loop-less Inv-loop μ-loop
+loop-less c = omega arith
+
+loop-again : tie.Need-loop-again Inv-loop μ-loop
+unfolding octets later next
+loop-again c =
+    let called = c .before .before .mix-period in
+    let inv = c .before .before .before .before .before .before .loop .inv in
+    (omega arith, omega arith, called .kept .1 .0 ∙ inv .2, frame-more _ _ _ _ (inv .1) (omega arith) (inv .3) (called .ensures))
+
+same-length : tie.Need-same-length Inv-loop μ-loop
+same-length c = omega arith
+
+returns : tie.Need-returns Inv-loop μ-loop
+returns c = frame-all _ _ _ (omega arith) (c .before .loop .inv .3)
+
+pub mix-spec : {M : Type 1} → statement M
+mix-spec =
+    tie.close
+    (tie.spec
+    Inv-loop
+    μ-loop
+    loop-holds
+    mix-period-requires
+    add-at
+    loop-less
+    loop-again
+    same-length
+    returns)

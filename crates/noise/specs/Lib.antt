@@ -1,0 +1,2 @@
+-- The pseudo-random sequence.
+pub mod Noise

@@ -1,0 +1,8 @@
+-- Laws that every crate above shares: of lists, of tests that decide, of buffers after a run of stores, of numbers in octets, of blank stretches, of tables.
+pub mod Lists
+pub mod Decide
+pub mod Put
+pub mod Numbers
+pub mod Signed
+pub mod Zero
+pub mod Table

@@ -1,0 +1,5 @@
+-- Octets: how definitions choose, numbers in octets, and buffers after a run of stores.
+pub mod Choice
+pub mod Number
+pub mod Buffer
+pub mod Each

@@ -1,0 +1,3 @@
+-- The transport header: lengths, needs and shapes.
+pub mod Length
+pub mod Shape

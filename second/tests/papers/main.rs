@@ -1,0 +1,11 @@
+//! The second program held to the values that the papers print, and to the paper's own cases.
+
+mod example;
+mod leaves;
+mod memory;
+mod refusals;
+mod rubbish;
+mod scripts;
+mod sha256;
+mod soundness;
+mod station;
