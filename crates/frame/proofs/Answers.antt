@@ -4,12 +4,13 @@ use mathlib.Core.Path.{_≡_, refl, sym, _∙_, ap}
 use mathlib.Core.Bool.{Bool, true, false, not}
 use mathlib.Core.List.{List}
 use mathlib.Core.Logic.{_⊎_}
-use Prim.Native.Nat.{ℕ, _<_}
+use Prim.Native.Nat.{ℕ, _<_, _≤_}
 use native.Mathlib.Omega.{arith}
 use borrow.Author.Tests.{eq-eqb, ne-eqb, eqb-true, eqb-false, not-false}
 use lib.Dec.{eqb}
 use lib.ListN.{length}
 use Rattle.octets.specs.Choice.{if_then_else_}
+use Rattle.octets.proofs.Lists.{if-cases}
 use Rattle.frame.specs.declared.Accepted.{Accepted}
 use Rattle.frame.specs.declared.Channel.{Channel}
 use Rattle.frame.specs.declared.Examined.{Examined}
@@ -36,6 +37,15 @@ never e =
 passed : (b : Bool) (n : ℕ) (x : Examined) {a : Accepted} → (if b then Refused n else x) ≡ Good a → (b ≡ false) × (x ≡ Good a)
 passed true n x e = absurd (never e)
 passed false n x e = (refl, e)
+
+-- a refusal of this crate has a number from 3 to 9
+abbrev Numbered : Examined → Type 0
+Numbered (Refused n) = (3 ≤ n) × (n ≤ 9)
+Numbered (Good a) = Unit
+
+-- what is handed on of a header, for desk d
+abbrev handed : ℕ → Frame → Accepted
+handed d h = record { desk = d; counter = h .counter; pointer = h .pointer }
 
 -- the header h is taken, and a is what is handed on of it
 pub record Accepts (craft : ℕ) (watched : List Channel) (h : Frame) (a : Accepted) : Type 0 where
@@ -72,7 +82,7 @@ module _ (craft : ℕ) (watched : List Channel) (h : Frame) where
         unfolding examinedHeader
         pointer-refused d w p = rw (eq-eqb _ _ v, eq-eqb _ _ s, ne-eqb _ _ f, w, p)
 
-  pointed-good : (d : ℕ) (p : Pointer) → (p ≡ pointer.Refused → ⊥) → pointed d h p ≡ Good (record { desk = d; counter = h .counter; pointer = h .pointer })
+  pointed-good : (d : ℕ) (p : Pointer) → (p ≡ pointer.Refused → ⊥) → pointed d h p ≡ Good (handed d h)
   pointed-good d (pointer.Offset q) n = refl
   pointed-good d pointer.NoStart n = refl
   pointed-good d pointer.Refused n = absurd (n refl)
@@ -97,7 +107,7 @@ module _ (craft : ℕ) (watched : List Channel) (h : Frame) where
       seated v s f NotWatched w g = absurd (never g)
       seated v s f (Desk d) w g =
           let allowed : pointerMeaning (h .pointer) ≡ pointer.Refused → ⊥ = λ r. never (sym (ap (pointed d h) r) ∙ g) in
-          let same : a ≡ record { desk = d; counter = h .counter; pointer = h .pointer } = cc (pointed-good d (pointerMeaning (h .pointer)) allowed) in
+          let same : a ≡ handed d h = cc (pointed-good d (pointerMeaning (h .pointer)) allowed) in
           record {
             version = v;
             spacecraft = s;
@@ -108,7 +118,32 @@ module _ (craft : ℕ) (watched : List Channel) (h : Frame) where
             pointer = ap (λ (x : Accepted). x .pointer) same;
           }
 
+  pointed-numbered : (d : ℕ) (p : Pointer) → Numbered (pointed d h p)
+  pointed-numbered d (pointer.Offset q) = tt
+  pointed-numbered d pointer.NoStart = tt
+  pointed-numbered d pointer.Refused = omega arith
+
+  watched-numbered : (w : Watch) → Numbered (watchedBy h w)
+  watched-numbered NotWatched = omega arith
+  watched-numbered (Desk d) = pointed-numbered d (pointerMeaning (h .pointer))
+
+  header-numbered : Numbered (examinedHeader craft watched h)
+  unfolding examinedHeader
+  header-numbered =
+      if-cases Numbered (not (eqb (h .version) 1)) (λ t. omega arith)
+      (λ v. if-cases Numbered (not (eqb (h .spacecraft) craft)) (λ t. omega arith)
+      (λ s. if-cases Numbered (eqb (h .channel .0) 63) (λ t. omega arith) (λ f. watched-numbered (deskOf watched (h .channel)))))
+
 module _ (craft : ℕ) (watched : List Channel) (f : List ℕ) where
+  numbered : Numbered (examined craft watched f)
+  unfolding examined
+  numbered =
+      if-cases Numbered (not (eqb (length f) 1024)) (λ t. omega arith)
+      (λ s. if-cases Numbered (not (startsWith marker f)) (λ t. omega arith) (λ m. header-numbered craft watched (frameOf (derandomised f))))
+
+  pub refusal-number : (n : ℕ) → examined craft watched f ≡ Refused n → (3 ≤ n) × (n ≤ 9)
+  refusal-number n e = rw e at numbered
+
   pub other-size : (length f ≡ 1024 → ⊥) → examined craft watched f ≡ Refused 3
   unfolding examined
   other-size n = rw (ne-eqb _ _ n)

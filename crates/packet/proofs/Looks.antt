@@ -1,16 +1,15 @@
 -- What a look at some octets tells: that there are too few, that the header is bad, or all that is known of a good one; and that only the
 -- first six octets are looked at. Assumes nothing.
-use mathlib.Core.Path.{_≡_, refl, sym, ap, subst, _∙_}
+use mathlib.Core.Path.{_≡_, refl, sym, subst}
 use mathlib.Core.Bool.{Bool, true, false, true≢false, _||_}
 use mathlib.Core.List.{List, _++_}
-use Prim.Native.Nat.{ℕ, _+_, _≤_, _<_}
+use Prim.Native.Nat.{ℕ, _≤_, _<_}
 use native.Mathlib.Omega.{arith}
 use borrow.Author.Tests.{ltb-true, ltb-false, eqb-true, not-false, le-ltb, le-leb}
-use lib.Dec.{ltb, leb, eqb}
+use lib.Dec.{ltb}
 use lib.ListN.{length, take, length-append}
 use lib.Seq.{length-take-le, take-take, take-append-le}
 use Rattle.octets.specs.Choice.{if_then_else_}
-use Rattle.octets.specs.Number.{bitsAt}
 use Rattle.octets.proofs.Numbers.{bitsAt-below}
 use Rattle.packet.specs.declared.Packet.{Packet}
 use Rattle.packet.specs.declared.Look.{Look}

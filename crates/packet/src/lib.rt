@@ -2,8 +2,8 @@
 //
 // Promises: header fields stand at the bit positions of the paper; any octets of any number are answered: too few, bad, or good.
 ghost use mathlib.Core.Path.{_≡_};
-ghost use Prim.Native.Nat.{_+_, _≤_, _<_};
-ghost use lib.ListN.{length, take};
+ghost use Prim.Native.Nat.{_≤_};
+ghost use lib.ListN.{length};
 ghost use Rattle.packet.specs.Kinds.{checkedApplication, kindOf, checkedCount, nextCount, countFollows};
 ghost use Rattle.packet.specs.Header.{packetOf, sizeOf, bad, lookOf};
 

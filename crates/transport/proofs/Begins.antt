@@ -1,5 +1,5 @@
 -- What the data of a packet begins, once it is long enough to say. Assumes nothing.
-use mathlib.Core.Path.{_≡_, refl, _∙_}
+use mathlib.Core.Path.{_≡_, refl}
 use mathlib.Core.Bool.{Bool, true, false, _&&_, _||_}
 use mathlib.Core.List.{List}
 use Prim.Native.Nat.{ℕ, _≤_}
@@ -7,7 +7,6 @@ use borrow.Author.Tests.{le-ltb}
 use lib.Dec.{eqb}
 use lib.ListN.{length}
 use Rattle.octets.specs.Choice.{if_then_else_}
-use Rattle.transport.specs.declared.Begun.{Begun}
 use Rattle.transport.specs.declared.Begun.the-variants.{Wrong, Right}
 use Rattle.transport.specs.declared.Transport.{Transport}
 use Rattle.transport.specs.Length.{transportOf, goodLength}
@@ -17,8 +16,8 @@ either : {A : Type 0} (a b : Bool) (x y : A) → (if a || b then x else y) ≡ (
 either true b x y = refl
 either false b x y = refl
 
-pub length-wrong : (flags : ℕ) (d : List ℕ) {t : Transport} → 10 ≤ length d → t ≡ transportOf d → goodLength (t .bits) ≡ false
-    → Wrong ≡ begunOf flags d
+pub length-wrong : (flags : ℕ) (d : List ℕ) {t : Transport} → 10 ≤ length d → t ≡ transportOf d
+    → goodLength (t .bits) ≡ false → Wrong ≡ begunOf flags d
 unfolding begunOf
 length-wrong flags d long is bad = rw (le-ltb _ _ long, ← is, bad)
 

@@ -5,7 +5,7 @@
 // any octets that would begin a file is answered.
 use packet::Count;
 ghost use mathlib.Core.Path.{_≡_};
-ghost use Prim.Native.Nat.{_+_, _≤_};
+ghost use Prim.Native.Nat.{_≤_};
 ghost use lib.ListN.{length};
 ghost use Rattle.transport.specs.Length.{transportOf, goodLength, octetsOfBits, transportSize, need as needOf, rest as restOf};
 ghost use Rattle.transport.specs.Shape.{firstFits, wholeFits, middleFits, lastFits, fits as fitsOf, begunOf};

@@ -12,7 +12,7 @@ use Rattle.octets.proofs.Lists.{unmap}
 use Rattle.frame.specs.declared.Channel.{Channel}
 use Rattle.frame.specs.declared.Watch.the-variants.{Desk, NotWatched}
 use Rattle.frame.specs.Kinds.{deskOf}
-use Rattle.frame.proofs.Desks.{Stands, at-desk, no-desk}
+use Rattle.frame.proofs.Desks.{at-desk, no-desk}
 use Rattle.frame.proofs.desk_of.Statement.{statement}
 use Rattle.frame.proofs.desk_of.Tie as tie
 

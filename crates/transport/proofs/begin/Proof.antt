@@ -34,19 +34,27 @@ first-fits-requires : tie.Need-first-fits-requires
 first-fits-requires c κs = search needs
 
 returns-3 : tie.Need-returns-3
-returns-3 c = shape-decides _ (ready (c .before .before .before)) true (rw (c .before .before .if3 .taken, ← c .before .first-fits .ensures, c .if4 .taken))
+returns-3 c =
+    shape-decides _ (ready (c .before .before .before)) true
+    (rw (c .before .before .if3 .taken, ← c .before .first-fits .ensures, c .if4 .taken))
 
 returns-4 : tie.Need-returns-4
-returns-4 c = shape-decides _ (ready (c .before .before .before)) false (rw (c .before .before .if3 .taken, ← c .before .first-fits .ensures, c .if4 .left))
+returns-4 c =
+    shape-decides _ (ready (c .before .before .before)) false
+    (rw (c .before .before .if3 .taken, ← c .before .first-fits .ensures, c .if4 .left))
 
 whole-fits-requires : tie.Need-whole-fits-requires
 whole-fits-requires c κs = search needs
 
 returns-5 : tie.Need-returns-5
-returns-5 c = shape-decides _ (ready (c .before .before .before .before)) true (rw (c .before .before .if5 .taken, ← c .before .whole-fits .ensures, c .if6 .taken))
+returns-5 c =
+    shape-decides _ (ready (c .before .before .before .before)) true
+    (rw (c .before .before .if5 .taken, ← c .before .whole-fits .ensures, c .if6 .taken))
 
 returns-6 : tie.Need-returns-6
-returns-6 c = shape-decides _ (ready (c .before .before .before .before)) false (rw (c .before .before .if5 .taken, ← c .before .whole-fits .ensures, c .if6 .left))
+returns-6 c =
+    shape-decides _ (ready (c .before .before .before .before)) false
+    (rw (c .before .before .if5 .taken, ← c .before .whole-fits .ensures, c .if6 .left))
 
 returns-7 : tie.Need-returns-7
 returns-7 c = shape-decides _ (ready (c .before .before)) false (rw (ne-eqb _ _ (c .before .if3 .left), ne-eqb _ _ (c .if5 .left)))

@@ -24,7 +24,8 @@ returns : tie.Need-returns
 returns c =
     let first = c .before .before in
     let octets = first .before .shared-slice-known .given in
-    read-is _ (λ i. octets i .fits) (search needs) (first .u16-at .ensures) (c .before .u16-at2 .ensures) (c .u16-at3 .ensures) (omega arith)
+    read-is _ (λ i. octets i .fits) (search needs)
+    (first .u16-at .ensures) (c .before .u16-at2 .ensures) (c .u16-at3 .ensures) (omega arith)
 
 pub read-spec : {M : Type 1} → statement M
 read-spec =

@@ -1,0 +1,2 @@
+-- The starred cases are right.
+pub mod Starred
