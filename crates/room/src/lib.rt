@@ -1,0 +1,175 @@
+// Room: which slot is free, which file a packet belongs to, the blocks that a file takes and gives back, and the octets in them.
+//
+// Promises: blocks move in rising order and no other entry of the table changes; taking and giving back keep the state sound and touch no
+// other file's places (proofs/Keeps.antt).
+use frame::Channel;
+use packet::Application;
+use state::Slot;
+use state::Station;
+use transport::Transport;
+ghost use mathlib.Core.Path.{_≡_};
+ghost use Prim.Native.Nat.{min, _+_, _*_, _≤_, _<_};
+ghost use lib.ListN.{length, getD, take};
+ghost use Rattle.octets.specs.Number.{part};
+ghost use Rattle.state.specs.Blocks.{numbersOf, needs as needsOf};
+ghost use Rattle.room.specs.Find.{freeFrom, fileFrom};
+ghost use Rattle.room.specs.Move.{given, opened, letGo};
+ghost use Rattle.room.specs.File.{joined};
+
+pub enum Found {
+    At(usize),
+    Nothing,
+}
+
+// The lowest free slot.
+pub fn free_slot(slots: [Slot; 32]) -> Found
+    ensures { λ r. ⌜ r ≡ freeFrom 0 slots ⌝ }
+{
+    let mut k: usize = 0;
+    while k < Station::SLOTS {
+        let x = slots[k];
+        if !x.is_held() {
+            return Found::At(k);
+        }
+        k += 1;
+    }
+    Found::Nothing
+}
+
+// The slot of the incomplete file of a channel and application.
+pub fn file_of(slots: [Slot; 32], channel: Channel, application: Application) -> Found
+    ensures { λ r. ⌜ r ≡ fileFrom 0 channel application slots ⌝ }
+{
+    let mut k: usize = 0;
+    while k < Station::SLOTS {
+        let x = slots[k];
+        if x.is_incomplete_of(channel, application) {
+            return Found::At(k);
+        }
+        k += 1;
+    }
+    Found::Nothing
+}
+
+// The needs of the held files, all together. No sum of 32 needs can wrap.
+pub fn needs(slots: [Slot; 32]) -> u64
+    ensures { λ r. ⌜ r ≡ needsOf slots ⌝ }
+{
+    let mut sum: u64 = 0;
+    let mut k: usize = 0;
+    while k < Station::SLOTS {
+        let x = slots[k];
+        if x.is_held() {
+            sum += x.need();
+            k += 1;
+        } else {
+            k += 1;
+        }
+    }
+    sum
+}
+
+// The first count blocks, rising, of the owner from among the first n go to the owner to.
+fn move_blocks(owner: &mut [u8; 4096], n: usize, from: u8, to: u8, count: usize)
+    requires { ⌜ (n ≤ 4096) × (length (now owner) ≡ 4096) ⌝ }
+    ensures { λ _. ⌜ now (owner .exit) ≡ given to (take count (numbersOf from 0 (take n (now (owner .entry))))) (now (owner .entry)) ⌝ }
+{
+    let mut left = count;
+    let mut b: usize = 0;
+    while b < n {
+        if left == 0 {
+            return;
+        }
+        let o = owner[b];
+        if o == from {
+            owner[b] = to;
+            left -= 1;
+            b += 1;
+        } else {
+            b += 1;
+        }
+    }
+}
+
+// A file opened in slot k.
+pub fn open_file(s: Station, k: usize, x: Slot) -> Station
+    requires { ⌜ (k < 32) × (s .blocks ≤ 4096) ⌝ }
+    ensures { λ r. ⌜ r ≡ opened s k x ⌝ }
+{
+    let mut t = s;
+    let n = t.blocks as usize;
+    move_blocks(&mut t.owner, n, 0, k as u8 + 1, x.need() as usize);
+    t.slots[k] = x;
+    t
+}
+
+// The file of slot k let go.
+pub fn let_go(s: Station, k: usize) -> Station
+    requires { ⌜ (k < 32) × (s .blocks ≤ 4096) ⌝ }
+    ensures { λ r. ⌜ r ≡ letGo s k ⌝ }
+{
+    let mut t = s;
+    let n = t.blocks as usize;
+    move_blocks(&mut t.owner, n, k as u8 + 1, 0, n);
+    let empty = Slot::none();
+    t.slots[k] = empty;
+    t
+}
+
+// The block at a place of an owner among the first n, or 0 where there is none.
+pub fn block_at(owner: &[u8], n: usize, o: u8, place: usize) -> usize
+    requires { ⌜ n ≤ length (now owner) ⌝ }
+    ensures { λ r. ⌜ r ≡ getD (numbersOf o 0 (take n (now (owner .entry)))) place 0 ⌝ }
+{
+    let mut still = place;
+    let mut b: usize = 0;
+    while b < n {
+        let x = owner[b];
+        if x == o {
+            if still == 0 {
+                return b;
+            }
+            still -= 1;
+            b += 1;
+        } else {
+            b += 1;
+        }
+    }
+    0
+}
+
+// The octets of an owner's blocks, one after the other, from place from on, to fill a buffer. While octets are wanted there is a block:
+// the requires says that the blocks have as many.
+pub fn copy_out(owner: &[u8], n: usize, o: u8, store: &[u8], from: usize, buffer: &mut [u8])
+    requires { ⌜ (n ≤ length (now owner)) × (length (now store) ≡ 8190 * n) ⌝ }
+    requires { ⌜ from + length (now buffer) ≤ 8190 * length (numbersOf o 0 (take n (now owner))) ⌝ }
+    ensures { λ _. ⌜ now (buffer .exit) ≡ part from (length (now (buffer .entry))) (joined (now (store .entry)) (numbersOf o 0 (take n (now (owner .entry))))) ⌝ }
+{
+    let mut skip = from;
+    let mut done: usize = 0;
+    let mut b: usize = 0;
+    while done < buffer.len() {
+        if owner[b] == o {
+            if skip < Transport::BLOCK {
+                let size = least(Transport::BLOCK - skip, buffer.len() - done);
+                let at = b * Transport::BLOCK + skip;
+                let end = at + size;
+                octets::copy(&store[at..end], buffer, done);
+                done += size;
+                skip = 0;
+                b += 1;
+            } else {
+                skip -= Transport::BLOCK;
+                b += 1;
+            }
+        } else {
+            b += 1;
+        }
+    }
+}
+
+fn least(a: usize, b: usize) -> usize
+    ensures { λ r. ⌜ r ≡ min a b ⌝ }
+{
+    if a < b { a } else { b }
+}
