@@ -143,6 +143,13 @@ module _ (xs : List ℕ) (at n from w : ℕ) (h : Octets xs) (whole : at + n ≤
       bitsAt-part
       ∙ ap (λ (k : ℕ). number (part at n xs) / 2 ^ (8 * k - (from + w)) % 2 ^ w) (whole-part xs at n whole)
 
+-- THE law of header fields: a field of the first m octets that lies within n octets from place `at` on is that field of the number in them
+pub field : (m : ℕ) (xs : List ℕ) → Octets xs → m ≤ length xs → (at n from w : ℕ) → at + n ≤ m → from + w ≤ 8 * n
+    → bitsAt (take m xs) (8 * at + from) w ≡ numberAt xs at n / 2 ^ (8 * n - (from + w)) % 2 ^ w
+field m xs h whole at n from w inside fits =
+    sym (rw zero-add at (bitsAt-part xs 0 m (8 * at + from) w h (omega arith) (omega arith)))
+    ∙ bitsAt-number xs at n from w h (omega arith) fits
+
 pub bitsAt-below : (xs : List ℕ) (from w : ℕ) → bitsAt xs from w < 2 ^ w
 unfolding bitsAt
 bitsAt-below xs from w = mod-lt (number xs / 2 ^ (8 * length xs - (from + w))) (pow-pos w)

@@ -1,6 +1,6 @@
 -- The laws of blank stretches. Assumes nothing.
 use mathlib.Core.Path.{_≡_, refl, sym, ap, ap₂, _∙_}
-use mathlib.Core.Bool.{Bool, true, false, _&&_, and-eq-true-iff}
+use mathlib.Core.Bool.{Bool, true, false, _&&_, and-eq-true-iff, and-true, and-assoc}
 use mathlib.Core.List.{List, [], _∷_, _++_}
 use Prim.Native.Nat.{ℕ, zero, suc, _+_, _-_, _<_, _≤_}
 use native.Mathlib.Numerals.{add-one}
@@ -12,14 +12,6 @@ use lib.ListN.{length, getD, replicate}
 use lib.Seq.{drop-cons}
 use Rattle.octets.specs.Number.{part}
 use Rattle.octets.specs.Buffer.{allZero}
-
-pub and-true : (a : Bool) → (a && true) ≡ a
-and-true true = refl
-and-true false = refl
-
-pub and-assoc : (a b c : Bool) → (a && b && c) ≡ (a && (b && c))
-and-assoc true b c = refl
-and-assoc false b c = refl
 
 pub or-more : (a b : ℕ) → a ≤ bitOr a b
 or-more a b = omega (arith, or-add-and a b, and-le-r a b)

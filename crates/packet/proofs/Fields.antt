@@ -1,21 +1,13 @@
 -- The fields of a header as the code reads them: parts of numbers of whole octets. Assumes nothing.
-use mathlib.Core.Path.{_≡_, sym, _∙_}
+use mathlib.Core.Path.{_≡_}
 use mathlib.Core.List.{List}
-use Prim.Native.Nat.{ℕ, _+_, _-_, _*_, _/_, _%_, _^_, _≤_, _<_}
-use native.Mathlib.Nat.{zero-add}
+use Prim.Native.Nat.{ℕ, _/_, _%_, _≤_, _<_}
 use native.Mathlib.Omega.{arith}
 use lib.ListN.{length, take}
 use Rattle.octets.specs.Number.{numberAt, bitsAt}
-use Rattle.octets.proofs.Numbers.{Octets, bitsAt-part, bitsAt-number}
+use Rattle.octets.proofs.Numbers.{Octets, field}
 use Rattle.packet.specs.declared.Packet.{Packet}
 use Rattle.packet.specs.Header.{packetOf}
-
--- a field of the first m octets that lies within n octets from place `at` on is that field of the number in them
-pub field : (xs : List ℕ) (m at n from w : ℕ) → Octets xs → m ≤ length xs → (at + n ≤ m) × (from + w ≤ 8 * n)
-    → bitsAt (take m xs) (8 * at + from) w ≡ numberAt xs at n / 2 ^ (8 * n - (from + w)) % 2 ^ w
-field xs m at n from w h whole within =
-    sym (rw zero-add at (bitsAt-part xs 0 m (8 * at + from) w h (omega arith) (omega arith)))
-    ∙ bitsAt-number xs at n from w h (omega arith) (omega arith)
 
 -- the header from the three numbers in its six octets
 pub read-is : (xs : List ℕ) → Octets xs → 6 ≤ length xs
@@ -31,11 +23,11 @@ pub read-is : (xs : List ℕ) → Octets xs → 6 ≤ length xs
     (packetOf xs)
 unfolding packetOf
 read-is xs h six {a} {b} {n} first second third below =
-    let version : a / 8192 ≡ bitsAt (take 6 xs) 0 3 = omega (arith, field xs 6 0 2 0 3 h six (omega arith)) in
-    let application : a % 2048 ≡ bitsAt (take 6 xs) 5 11 = omega (arith, field xs 6 0 2 5 11 h six (omega arith)) in
-    let flags : b / 16384 ≡ bitsAt (take 6 xs) 16 2 = omega (arith, field xs 6 2 2 0 2 h six (omega arith)) in
-    let count : b % 16384 ≡ bitsAt (take 6 xs) 18 14 = omega (arith, field xs 6 2 2 2 14 h six (omega arith)) in
-    let last : n ≡ bitsAt (take 6 xs) 32 16 = omega (arith, field xs 6 4 2 0 16 h six (omega arith)) in
+    let version : a / 8192 ≡ bitsAt (take 6 xs) 0 3 = omega (arith, field 6 xs h six 0 2 0 3 (omega arith) (omega arith)) in
+    let application : a % 2048 ≡ bitsAt (take 6 xs) 5 11 = omega (arith, field 6 xs h six 0 2 5 11 (omega arith) (omega arith)) in
+    let flags : b / 16384 ≡ bitsAt (take 6 xs) 16 2 = omega (arith, field 6 xs h six 2 2 0 2 (omega arith) (omega arith)) in
+    let count : b % 16384 ≡ bitsAt (take 6 xs) 18 14 = omega (arith, field 6 xs h six 2 2 2 14 (omega arith) (omega arith)) in
+    let last : n ≡ bitsAt (take 6 xs) 32 16 = omega (arith, field 6 xs h six 4 2 0 16 (omega arith) (omega arith)) in
     λ i. record {
       version = version i;
       application = record { 0 = application i };

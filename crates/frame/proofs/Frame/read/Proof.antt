@@ -9,7 +9,7 @@ use Rattle.octets.specs.Number.{numberAt, bitsAt}
 use Rattle.octets.proofs.Numbers.{Octets}
 use Rattle.frame.specs.declared.Frame.{Frame}
 use Rattle.frame.specs.Header.{frameOf}
-use Rattle.frame.proofs.Fields.{field}
+use Rattle.octets.proofs.Numbers.{field}
 use Rattle.frame.proofs.Frame.read.Statement.{statement}
 use Rattle.frame.proofs.Frame.read.Tie as tie
 
