@@ -28,7 +28,7 @@ loop-less : tie.Need-loop-less Inv-loop μ-loop
 loop-less c = search needs
 
 loop-again : tie.Need-loop-again Inv-loop μ-loop
-loop-again c = (omega arith, free-block (c .before .before .before .loop .inv .1) (omega arith) (c .if1 .taken))
+loop-again c = (omega arith, free-block (c .before .before .before .loop .inv .1) (omega arith) (omega arith))
 
 add-b-2 : tie.Need-add-b-2 Inv-loop μ-loop
 add-b-2 c = search needs
@@ -37,7 +37,7 @@ loop-less-2 : tie.Need-loop-less-2 Inv-loop μ-loop
 loop-less-2 c = search needs
 
 loop-again-2 : tie.Need-loop-again-2 Inv-loop μ-loop
-loop-again-2 c = (omega arith, stray-block (c .before .before .before .before .loop .inv .1) (omega arith) (c .if2 .taken))
+loop-again-2 c = (omega arith, stray-block (c .before .before .before .before .loop .inv .1) (omega arith) (omega arith))
 
 sub-k : tie.Need-sub-k Inv-loop μ-loop
 sub-k c = search needs

@@ -1,8 +1,9 @@
 -- `good_channels` meets its contract. The loop's invariant: the channels are distinct and 0 to 62 exactly if those from place i on are. The
 -- measure is what is left of the list. Assumes nothing.
 use mathlib.Core.Path.{_≡_, refl, sym, ap, _∙_}
-use mathlib.Core.List.{List}
-use Prim.Native.Nat.{ℕ, _-_, _≤_}
+use mathlib.Core.Bool.{true, false}
+use mathlib.Core.List.{List, _∷_}
+use Prim.Native.Nat.{ℕ, _-_, _≤_, _<_}
 use native.Mathlib.Omega.{arith}
 use borrow.Author.Needs.{needs}
 use borrow.Author.Tests.{le-leb, lt-leb}
@@ -12,6 +13,21 @@ use Rattle.state.specs.Decision.{among, distinctChannels, goodChannels}
 use Rattle.state.proofs.Walk.{Left, begins-at, behind, settled, passed, ended}
 use Rattle.state.proofs.good_channels.Statement.{statement}
 use Rattle.state.proofs.good_channels.Tie as tie
+
+-- what the first channel says
+module _ (c : ℕ) (cs : List ℕ) where
+  high : 62 < c → distinctChannels (c ∷ cs) ≡ false
+  unfolding distinctChannels
+  high h = rw (lt-leb _ _ h)
+
+  module _ (low : c ≤ 62) where
+    again : among c cs ≡ true → distinctChannels (c ∷ cs) ≡ false
+    unfolding distinctChannels
+    again e = rw (le-leb _ _ low, e)
+
+    once : among c cs ≡ false → distinctChannels (c ∷ cs) ≡ distinctChannels cs
+    unfolding distinctChannels
+    once e = rw (le-leb _ _ low, e)
 
 -- a number of channels that is right leaves what each of them says
 good : (cs : List ℕ) → 1 ≤ length cs → length cs ≤ 8 → distinctChannels cs ≡ goodChannels cs
@@ -39,9 +55,7 @@ shared-slice-read-c : tie.Need-shared-slice-read-c Inv-loop μ-loop
 shared-slice-read-c c = search needs
 
 returns-3 : tie.Need-returns-3 Inv-loop μ-loop
-unfolding distinctChannels
-returns-3 c =
-    settled (c .before .before .before .loop .inv) 0 (omega arith) (rw (lt-leb _ _ (c .if3 .taken))) ∙ good _ (omega arith) (omega arith)
+returns-3 c = settled (c .before .before .before .loop .inv) 0 (omega arith) (high _ _ (omega arith)) ∙ good _ (omega arith) (omega arith)
 
 add-among : tie.Need-add-among Inv-loop μ-loop
 add-among c = search needs
@@ -50,11 +64,10 @@ among-requires : tie.Need-among-requires Inv-loop μ-loop
 among-requires c κs = search needs
 
 returns-4 : tie.Need-returns-4 Inv-loop μ-loop
-unfolding distinctChannels
 returns-4 c =
     let l = c .before .before .before .before .before .loop .inv in
-    let again = ap (among _) (behind l refl) ∙ sym (c .before .among .ensures) ∙ c .if4 .taken in
-    settled l 0 (omega arith) (rw (le-leb _ _ (c .before .before .if3 .left), again)) ∙ good _ (omega arith) (omega arith)
+    let here = ap (among _) (behind l refl) ∙ sym (c .before .among .ensures) ∙ c .if4 .taken in
+    settled l 0 (omega arith) (again _ _ (omega arith) here) ∙ good _ (omega arith) (omega arith)
 
 add-i : tie.Need-add-i Inv-loop μ-loop
 add-i c = search needs
@@ -63,11 +76,10 @@ loop-less : tie.Need-loop-less Inv-loop μ-loop
 loop-less c = search needs
 
 loop-again : tie.Need-loop-again Inv-loop μ-loop
-unfolding distinctChannels
 loop-again c =
     let l = c .before .before .before .before .before .loop .inv in
-    let once = ap (among _) (behind l refl) ∙ sym (c .before .among .ensures) ∙ c .if4 .left in
-    passed l 0 (omega arith) (rw (le-leb _ _ (c .before .before .if3 .left), once))
+    let nowhere = ap (among _) (behind l refl) ∙ sym (c .before .among .ensures) ∙ c .if4 .left in
+    passed l 0 (omega arith) (once _ _ (omega arith) nowhere)
 
 returns-5 : tie.Need-returns-5 Inv-loop μ-loop
 unfolding distinctChannels

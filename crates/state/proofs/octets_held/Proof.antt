@@ -44,7 +44,7 @@ returns : tie.Need-returns
 returns c = sym (spoilt _ _ (search denied))
 
 returns-2 : tie.Need-returns-2
-returns-2 c = sym (few _ _ (search granted) (c .if2 .taken))
+returns-2 c = sym (few _ _ (search granted) (omega arith))
 
 look-at-requires : tie.Need-look-at-requires
 look-at-requires c κs = search needs

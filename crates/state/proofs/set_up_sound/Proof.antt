@@ -50,7 +50,7 @@ returns-2 c =
 
 returns-3 : tie.Need-returns-3
 returns-3 c =
-    sym (no-store _ (c .before .before .before .before .before .before .args .t2) _ (omega arith) (search granted) (c .if3 .taken))
+    sym (no-store _ (c .before .before .before .before .before .before .args .t2) _ (omega arith) (search granted) (omega arith))
 
 returns-4 : tie.Need-returns-4
 returns-4 c =

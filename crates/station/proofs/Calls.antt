@@ -1,0 +1,244 @@
+-- What each call gives back, read off the definitions once: the first number of its list that applies, and then nothing changes; or 0, and
+-- then what was to be done is done. Assumes nothing.
+use mathlib.Core.Path.{_≡_, refl, _∙_}
+use mathlib.Core.Bool.{Bool, true, false, not, _&&_, false≢true}
+use mathlib.Core.Logic.{_↔_}
+use mathlib.Core.List.{List, [], _∷_}
+use Prim.Native.Nat.{ℕ, _*_, _/_, _<_}
+use native.Mathlib.Decide.{ℕ-discrete}
+use native.Mathlib.Omega.{arith}
+use borrow.Author.Tests.{not-true, not-false, ltb-true, lt-ltb, le-leb, eqb-true, eq-eqb}
+use lib.Dec.{ltb, eqb}
+use lib.ListN.{length, replicate, length-replicate}
+use Rattle.octets.specs.Choice.{if_then_else_}
+use Rattle.octets.specs.Number.{part}
+use Rattle.octets.proofs.Lists.{if-map}
+use Rattle.transport.specs.Length.{octetsOfBits}
+use Rattle.state.specs.declared.Slot.{Slot}
+use Rattle.state.specs.declared.Station.{Station}
+use Rattle.state.specs.Slots.{slotAt, held, needOf, complete, incomplete, allZeroState}
+use Rattle.state.specs.Sound.{Sized, Sound, DesksSound}
+use Rattle.state.specs.Decision.{among, goodChannels, isSound}
+use Rattle.state.proofs.Each.{and-left, and-right, and-both}
+use Rattle.room.specs.Move.{letGo}
+use Rattle.room.specs.File.{fileOctets}
+use Rattle.room.proofs.Keeps.{refiled-sized, refiled-desks, letGo-refiles, letGo-sound}
+use Rattle.station.specs.SetUp.{SetUpOutcome, setUpGives, desksFit, wholeBlocks, freshStation, setUp}
+use Rattle.station.specs.Files.{answered, isHeld, asked, releasedAs, released, droppedAs, dropped, ReadOutcome, readGives, storeFits, within, readAs, readOut}
+use Rattle.station.specs.declared.Answered.{Answered}
+use Rattle.station.specs.declared.Asked.{Asked}
+use Rattle.station.specs.declared.Asked.the-variants.{Refused, Complete, Incomplete}
+use Rattle.station.specs.Answers.{Reason, decided, setUpSays, slotSays, releaseSays, dropSays, readSays}
+use Rattle.station.specs.Answers.Reason.{_when_}
+use Rattle.station.proofs.Asking.{complete-held}
+use Rattle.station.proofs.Decided.{None, Outcome, outcome, never}
+use Rattle.station.proofs.Fresh.{few-channels, whole-store, fresh-sized, fresh-sound, fresh-desks}
+
+pub setUp-is : (craft : ℕ) (channels desks store : List ℕ) → setUp craft channels desks store
+    ≡ decided (setUpSays channels desks store) (setUpGives 0 (freshStation craft channels (length store / 8190)) (replicate (length desks) 0))
+    (λ (n : ℕ). setUpGives n allZeroState desks)
+unfolding setUp
+setUp-is craft channels desks store = refl
+
+-- a slot that is asked for, under what comes of the answer
+asked-is : {A : Type 0} (f : Asked → A) (s : Station) (k : ℕ) → f (asked s k)
+    ≡ decided (slotSays s k []) (if complete (slotAt s k) then f (Complete k) else f (Incomplete k)) (λ (n : ℕ). f (Refused n))
+unfolding asked
+asked-is f s k = simp (if-map f)
+
+if-not : {A : Type 0} (b : Bool) (x y : A) → (if b then x else y) ≡ (if not b then y else x)
+if-not true x y = refl
+if-not false x y = refl
+
+module _ (s : Station) (k : ℕ) where
+  pub release-is : released s k ≡ decided (releaseSays s k) (answered 0 (letGo s k)) (λ (n : ℕ). answered n s)
+  unfolding released releasedAs
+  release-is = asked-is (releasedAs s) s k ∙ rw (if-not (complete (slotAt s k)))
+
+  pub drop-is : dropped s k ≡ decided (dropSays s k) (answered 0 (letGo s k)) (λ (n : ℕ). answered n s)
+  unfolding dropped droppedAs
+  drop-is = asked-is (droppedAs s) s k
+
+  pub read-is : (store : List ℕ) (offset : ℕ) (buffer : List ℕ) → readOut s store k offset buffer
+      ≡ decided (readSays s store k offset (length buffer)) (readGives 0 (part offset (length buffer) (fileOctets s store k)))
+      (λ (n : ℕ). readGives n buffer)
+  unfolding readOut readAs
+  read-is store offset buffer =
+      let fits = storeFits (s .blocks) store in
+      let inside = within (octetsOfBits (slotAt s k .bits)) offset (length buffer) in
+      rw (asked-is (readAs s store offset buffer) s k, if-not fits, if-not (complete (slotAt s k)), if-not inside)
+
+-- release and drop: the file of slot k goes, or nothing changes
+abbrev pub Goes : Station → ℕ → List Reason → Answered → Type 0
+Goes s k rs = Outcome (λ (r : Answered). r .answer) rs (answered 0 (letGo s k)) (λ (n : ℕ). answered n s)
+
+-- what the numbers of each call say
+module _ (s : Station) (k : ℕ) where
+  pub release-outcome : Goes s k (releaseSays s k) (released s k)
+  unfolding among
+  release-outcome = rw (release-is s k) (outcome _ (releaseSays s k) _ _ refl (λ n. refl) refl)
+
+  pub drop-outcome : Goes s k (dropSays s k) (dropped s k)
+  unfolding among
+  drop-outcome = rw (drop-is s k) (outcome _ (dropSays s k) _ _ refl (λ n. refl) refl)
+
+  pub read-outcome : (store : List ℕ) (offset : ℕ) (buffer : List ℕ)
+      → Outcome (λ (r : ReadOutcome). r .answer) (readSays s store k offset (length buffer))
+      (readGives 0 (part offset (length buffer) (fileOctets s store k))) (λ (n : ℕ). readGives n buffer) (readOut s store k offset buffer)
+  unfolding among
+  read-outcome store offset buffer =
+      rw (read-is s k store offset buffer) (outcome _ (readSays s store k offset (length buffer)) _ _ refl (λ n. refl) refl)
+
+pub setUp-outcome : (craft : ℕ) (channels desks store : List ℕ) → Outcome (λ (r : SetUpOutcome). r .answer) (setUpSays channels desks store)
+    (setUpGives 0 (freshStation craft channels (length store / 8190)) (replicate (length desks) 0)) (λ (n : ℕ). setUpGives n allZeroState desks)
+    (setUp craft channels desks store)
+unfolding among
+setUp-outcome craft channels desks store =
+    rw (setUp-is craft channels desks store) (outcome _ (setUpSays channels desks store) _ _ refl (λ n. refl) refl)
+
+-- none of the reasons that come first holds of a slot
+asked-exactly : (s : Station) (k : ℕ) (rs : List Reason)
+    → None (slotSays s k rs) ↔ ((isSound s ≡ true) × (k < 32) × (held (slotAt s k) ≡ true) × None rs)
+asked-exactly s k rs = (to, back)
+  where
+    to : None (slotSays s k rs) → (isSound s ≡ true) × (k < 32) × (held (slotAt s k) ≡ true) × None rs
+    to (a, (b, g)) =
+        let here = not-false (isHeld s k) b in (
+          not-false (isSound s) a,
+          ltb-true k 32 (and-left (ltb k 32) (held (slotAt s k)) here),
+          and-right (ltb k 32) (held (slotAt s k)) here,
+          g,
+        )
+
+    back : (isSound s ≡ true) × (k < 32) × (held (slotAt s k) ≡ true) × None rs → None (slotSays s k rs)
+    back (sound, low, here, g) = (rw sound, (rw (lt-ltb k 32 low, here), g))
+
+incomplete-exactly : (x : Slot) → (incomplete x ≡ true) ↔ ((held x ≡ true) × (complete x ≡ false))
+unfolding complete incomplete
+incomplete-exactly x = go (held x) (eqb (x .accepted) (needOf x))
+  where
+    go : (a b : Bool) → ((a && not b) ≡ true) ↔ ((a ≡ true) × ((a && b) ≡ false))
+    go true b = (λ e. (refl, not-true b e), λ h. rw (h .1))
+    go false b = (λ e. absurd (false≢true e), λ h. absurd (false≢true (h .0)))
+
+-- what 0 means
+module _ (s : Station) (k : ℕ) where
+  pub release-zero : (released s k .answer ≡ 0) ↔ ((isSound s ≡ true) × (k < 32) × (complete (slotAt s k) ≡ true))
+  release-zero =
+      let o = release-outcome s k .zero in
+      let a = asked-exactly s k ((12 when not (complete (slotAt s k))) ∷ []) in (
+        λ e. let (sound, low, here, g) = a .0 (o .0 e) in (sound, low, not-false (complete (slotAt s k)) (g .0)),
+        λ (sound, low, whole). o .1 (a .1 (sound, low, complete-held (slotAt s k) whole, (rw whole, tt))),
+      )
+
+  pub drop-zero : (dropped s k .answer ≡ 0) ↔ ((isSound s ≡ true) × (k < 32) × (incomplete (slotAt s k) ≡ true))
+  drop-zero =
+      let o = drop-outcome s k .zero in
+      let a = asked-exactly s k ((13 when complete (slotAt s k)) ∷ []) in
+      let part = incomplete-exactly (slotAt s k) in (
+        λ e. let (sound, low, here, g) = a .0 (o .0 e) in (sound, low, part .1 (here, g .0)),
+        λ (sound, low, going). o .1 (a .1 (sound, low, part .0 going .0, (part .0 going .1, tt))),
+      )
+
+  pub read-zero : (store : List ℕ) (offset : ℕ) (buffer : List ℕ) → (readOut s store k offset buffer .answer ≡ 0)
+      ↔ ((storeFits (s .blocks) store ≡ true) × (isSound s ≡ true) × (k < 32) × (complete (slotAt s k) ≡ true)
+      × (within (octetsOfBits (slotAt s k .bits)) offset (length buffer) ≡ true))
+  read-zero store offset buffer =
+      let o = read-outcome s k store offset buffer .zero in
+      let fits = storeFits (s .blocks) store in
+      let inside = within (octetsOfBits (slotAt s k .bits)) offset (length buffer) in
+      let whole = complete (slotAt s k) in
+      let a = asked-exactly s k ((12 when not whole) ∷ (14 when not inside) ∷ []) in (
+        λ e.
+            let (f, g) = o .0 e in
+            let (sound, low, here, (w, (i, u))) = a .0 g in
+            (not-false fits f, sound, low, not-false whole w, not-false inside i),
+        λ (f, sound, low, w, i). o .1 (rw f, a .1 (sound, low, complete-held (slotAt s k) w, (rw w, (rw i, tt)))),
+      )
+
+pub setUp-zero : (craft : ℕ) (channels desks store : List ℕ) → (setUp craft channels desks store .answer ≡ 0)
+    ↔ ((goodChannels channels ≡ true) × (desksFit (length channels) desks ≡ true) × (wholeBlocks store ≡ true))
+setUp-zero craft channels desks store =
+    let o = setUp-outcome craft channels desks store .zero in
+    let fits = desksFit (length channels) desks in
+    let whole = wholeBlocks store in (
+      λ e.
+          let (g, (m, u)) = o .0 e in
+          let lent = not-false (fits && whole) m in
+          (not-false (goodChannels channels) g, and-left fits whole lent, and-right fits whole lent),
+      λ (g, f, w). o .1 (rw g, (rw (f, w), tt)),
+    )
+
+-- "no call is answered by 2", where the state is sound
+module _ (s : Station) (k : ℕ) (sound : isSound s ≡ true) where
+  pub release-never-2 : released s k .answer ≡ 2 → ⊥
+  release-never-2 = never (release-outcome s k) 2 (omega arith) (rw sound)
+
+  pub drop-never-2 : dropped s k .answer ≡ 2 → ⊥
+  drop-never-2 = never (drop-outcome s k) 2 (omega arith) (rw sound)
+
+  pub read-never-2 : (store : List ℕ) (offset : ℕ) (buffer : List ℕ) → readOut s store k offset buffer .answer ≡ 2 → ⊥
+  read-never-2 store offset buffer = never (read-outcome s k store offset buffer) 2 (omega arith) (rw sound)
+
+-- a state with the memory that was lent for it: what a set-up answered by 0 hands over, and every call keeps
+pub record Ready (s : Station) (d m : List ℕ) : Type 0 where
+  pub sized : Sized s
+  pub sound : Sound s
+  pub desks : DesksSound s d
+  pub desks-fit : desksFit (s .channels) d ≡ true
+  pub store-fits : storeFits (s .blocks) m ≡ true
+
+-- release and drop keep it
+module _ {s : Station} (k : ℕ) {rs : List Reason} {r : Answered} (g : Goes s k (slotSays s k rs) r) where
+  goes-cases : (P : Station → Type 0) → (k < 32 → P (letGo s k)) → P s → P (r .station)
+  goes-cases P gone same =
+      elim (ℕ-discrete (r .answer) 0) [
+        | yes e ↦ rw (g .done e) (gone (asked-exactly s k rs .0 (g .zero .0 e) .1))
+        | no f ↦ rw (g .refused f .0) same
+      ]
+
+  pub goes-sized : Sized s → Sized (r .station)
+  goes-sized z = goes-cases Sized (λ low. refiled-sized (letGo-refiles s k) z) z
+
+  pub goes-sound : Sized s → Sound s → Sound (r .station)
+  goes-sound z h = goes-cases Sound (λ low. letGo-sound z h low) h
+
+  pub goes-desks : (desks : List ℕ) → DesksSound s desks → DesksSound (r .station) desks
+  goes-desks desks d = goes-cases (λ (t : Station). DesksSound t desks) (λ low. refiled-desks (letGo-refiles s k) desks d) d
+
+  goes-fits : r .station .channels ≡ s .channels × r .station .blocks ≡ s .blocks
+  unfolding letGo
+  goes-fits = goes-cases (λ (t : Station). (t .channels ≡ s .channels) × (t .blocks ≡ s .blocks)) (λ low. (refl, refl)) (refl, refl)
+
+  pub goes-ready : (desks store : List ℕ) → Ready s desks store → Ready (r .station) desks store
+  goes-ready desks store h =
+      record {
+        sized = goes-sized (h .sized);
+        sound = goes-sound (h .sized) (h .sound);
+        desks = goes-desks desks (h .desks);
+        desks-fit = rw (goes-fits .0) (h .desks-fit);
+        store-fits = rw (goes-fits .1) (h .store-fits);
+      }
+
+module _ (craft : ℕ) (channels desks store : List ℕ) where
+  fresh-ready : goodChannels channels ≡ true → desksFit (length channels) desks ≡ true → wholeBlocks store ≡ true
+      → Ready (freshStation craft channels (length store / 8190)) (replicate (length desks) 0) store
+  unfolding freshStation
+  fresh-ready good fit whole =
+      let n = length store / 8190 in
+      let l : length desks ≡ 8198 * length channels = eqb-true (length desks) (8198 * length channels) fit in
+      let w = whole-store store whole in
+      record {
+        sized = fresh-sized craft channels n (few-channels channels good);
+        sound = fresh-sound craft channels n good (w .one) (w .most);
+        desks = rw l (fresh-desks craft channels n);
+        desks-fit = eq-eqb _ _ (length-replicate (length desks) 0 ∙ l);
+        store-fits = and-both (and-both (le-leb 1 n (w .one)) (le-leb n 4096 (w .most))) (eq-eqb (length store) (8190 * n) (w .all));
+      }
+
+  -- a set-up answered by 0
+  pub setUp-ready : setUp craft channels desks store .answer ≡ 0
+      → Ready (setUp craft channels desks store .station) (setUp craft channels desks store .desks) store
+  setUp-ready e =
+      let (good, fit, whole) = setUp-zero craft channels desks store .0 e in
+      rw (setUp-outcome craft channels desks store .done e) (fresh-ready good fit whole)

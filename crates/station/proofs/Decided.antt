@@ -1,0 +1,110 @@
+-- What is decided by a list of reasons: the first that applies; and where the numbers rise, that is the lowest. Assumes nothing.
+use mathlib.Core.Path.{_≡_, refl, sym, ap, _∙_}
+use mathlib.Core.Bool.{Bool, true, false, _&&_, _||_, and-false, or-true, true≢false, false≢true}
+use mathlib.Core.Logic.{_⊎_, inl, inr, ⊎-elim, _↔_}
+use mathlib.Core.List.{List, [], _∷_}
+use Prim.Native.Nat.{ℕ, _≤_, _<_}
+use native.Mathlib.Omega.{arith}
+use borrow.Author.Tests.{eq-eqb, eqb-true, ltb-true}
+use lib.Dec.{ltb, eqb}
+use Rattle.octets.proofs.Lists.{if-cases}
+use Rattle.state.specs.Decision.{among}
+use Rattle.state.proofs.Each.{and-left, and-right}
+use Rattle.station.specs.Answers.{Reason, decided, numbers, applies}
+use Rattle.station.specs.Answers.Reason.{_when_}
+
+-- no reason applies
+abbrev pub None : List Reason → Type 0
+None [] = Unit
+None ((n when b) ∷ rs) = (b ≡ false) × None rs
+
+-- the reason of n is the first that applies
+pub data First : List Reason → ℕ → Type 0 where
+  here : {n : ℕ} {b : Bool} {rs : List Reason} → b ≡ true → First ((n when b) ∷ rs) n
+  later : {m n : ℕ} {b : Bool} {rs : List Reason} → b ≡ false → First rs m → First ((n when b) ∷ rs) m
+
+pub decided-cases : {A : Type 0} (P : A → Type 0) (rs : List Reason) {done : A} {refused : ℕ → A}
+    → (None rs → P done) → ((n : ℕ) → First rs n → P (refused n)) → P (decided rs done refused)
+decided-cases P [] d r = d tt
+decided-cases P ((n when b) ∷ rs) d r =
+    if-cases P b (λ e. r n (here e)) (λ e. decided-cases P rs (λ f. d (e, f)) (λ m f. r m (later e f)))
+
+first-among : {rs : List Reason} {n : ℕ} → First rs n → among n (numbers rs) ≡ true
+unfolding among
+first-among (here {n} e) = rw (eq-eqb n n refl)
+first-among (later e f) = rw (first-among f, or-true)
+
+pub first-applies : {rs : List Reason} {n : ℕ} → First rs n → applies rs n ≡ true
+first-applies (here {n} e) = rw (eq-eqb n n refl, e)
+first-applies (later e f) = rw (first-applies f, or-true)
+
+first-some : {rs : List Reason} {n : ℕ} → First rs n → None rs → ⊥
+first-some (here e) g = true≢false (sym e ∙ g .0)
+first-some (later e f) g = first-some f (g .1)
+
+-- each number is greater than the one before it, and than l
+abbrev pub rising : ℕ → List Reason → Bool
+rising l [] = true
+rising l ((n when b) ∷ rs) = ltb l n && rising n rs
+
+none-applies : (rs : List Reason) → None rs → (m : ℕ) → applies rs m ≡ false
+none-applies [] g m = refl
+none-applies ((n when b) ∷ rs) g m = rw (g .0, and-false, none-applies rs (g .1) m)
+
+or-cases : (a b : Bool) → (a || b) ≡ true → (a ≡ true) ⊎ (b ≡ true)
+or-cases true b e = inl e
+or-cases false b e = inr e
+
+-- of numbers that rise, none that applies is less than the first
+at-least : (n : ℕ) (b : Bool) (rs : List Reason) → rising n rs ≡ true → (m : ℕ) → applies ((n when b) ∷ rs) m ≡ true → n ≤ m
+at-least n b [] up m e =
+    ⊎-elim (λ q. omega (arith, eqb-true n m (and-left (eqb n m) b q))) (λ q. absurd (false≢true q)) (or-cases (eqb n m && b) false e)
+at-least n b ((k when c) ∷ rs) up m e =
+    ⊎-elim (λ q. omega (arith, eqb-true n m (and-left (eqb n m) b q)))
+    (λ q. omega (arith, ltb-true n k (and-left (ltb n k) (rising k rs) up), at-least k c rs (and-right (ltb n k) (rising k rs) up) m q))
+    (or-cases (eqb n m && b) (applies ((k when c) ∷ rs) m) e)
+
+first-lowest : {rs : List Reason} {n : ℕ} → First rs n → (l : ℕ) → rising l rs ≡ true → (m : ℕ) → applies rs m ≡ true → (l < n) × (n ≤ m)
+first-lowest (here {n} {b} {rs} p) l up m e =
+    (ltb-true l n (and-left (ltb l n) (rising n rs) up), at-least n b rs (and-right (ltb l n) (rising n rs) up) m e)
+first-lowest (later {n = k} {rs = rs} p f) l up m e =
+    let rest = first-lowest f k (and-right (ltb l k) (rising k rs) up) m (rw (p, and-false) at e) in
+    (omega (arith, ltb-true l k (and-left (ltb l k) (rising k rs) up), rest .0), rest .1)
+
+-- the outcome r of a call with these reasons: d where none applies, else f of the number
+pub record Outcome {A : Type 0} (answer : A → ℕ) (rs : List Reason) (d : A) (f : ℕ → A) (r : A) : Type 0 where
+  pub one-of : among (answer r) (0 ∷ numbers rs) ≡ true
+  pub zero : (answer r ≡ 0) ↔ None rs
+  pub done : answer r ≡ 0 → r ≡ d
+  -- "Every number but 0 carries no other result and changes nothing"
+  pub refused : (answer r ≡ 0 → ⊥) → (r ≡ f (answer r)) × (applies rs (answer r) ≡ true)
+  -- "The lowest number that applies is given"
+  pub lowest : rising 0 rs ≡ true → (m : ℕ) → applies rs m ≡ true → (1 ≤ answer r) × (answer r ≤ m)
+
+pub outcome : {A : Type 0} (answer : A → ℕ) (rs : List Reason) (d : A) (f : ℕ → A) → answer d ≡ 0 → ((n : ℕ) → answer (f n) ≡ n)
+    → among 0 (numbers rs) ≡ false → Outcome answer rs d f (decided rs d f)
+unfolding among
+outcome answer rs d f zero number some =
+    decided-cases (Outcome answer rs d f) rs
+    (λ g.
+    record {
+      one-of = rw zero refl;
+      zero = (λ e. g, λ h. zero);
+      done = λ e. refl;
+      refused = λ n. absurd (n zero);
+      lowest = λ up m e. absurd (true≢false (sym e ∙ none-applies rs g m));
+    })
+    (λ n g.
+    let not : n ≡ 0 → ⊥ = λ e. true≢false (sym (first-among g) ∙ rw e some) in
+    record {
+      one-of = rw (number n, first-among g, or-true);
+      zero = (λ e. absurd (not (sym (number n) ∙ e)), λ h. absurd (first-some g h));
+      done = λ e. absurd (not (sym (number n) ∙ e));
+      refused = λ h. rw (number n) (refl, first-applies g);
+      lowest = λ up m e. rw (number n) (first-lowest g 0 up m e);
+    })
+
+-- a number whose reason does not apply is not given
+pub never : {A : Type 0} {answer : A → ℕ} {rs : List Reason} {d : A} {f : ℕ → A} {r : A} → Outcome answer rs d f r
+    → (m : ℕ) → 1 ≤ m → applies rs m ≡ false → answer r ≡ m → ⊥
+never {rs = rs} o m some not e = true≢false (sym (o .refused (λ z. omega arith) .1) ∙ ap (applies rs) e ∙ not)

@@ -1,0 +1,7 @@
+-- Laws of the calls: of a fresh station, of a slot that is asked for, of what reasons in order decide, of what each call gives back, and the
+-- wild cases.
+pub mod Fresh
+pub mod Asking
+pub mod Decided
+pub mod Calls
+pub mod Wild

@@ -1,0 +1,80 @@
+-- Read, release and drop. Assumes nothing.
+use mathlib.Core.Bool.{Bool, not, _&&_}
+use mathlib.Core.List.{List}
+use Prim.Native.Nat.{ℕ, _-_, _*_}
+use lib.Dec.{leb, ltb, eqb}
+use lib.ListN.{length}
+use Rattle.octets.specs.Choice.{if_then_else_}
+use Rattle.octets.specs.Number.{part}
+use Rattle.transport.specs.Length.{octetsOfBits}
+use Rattle.state.specs.declared.Station.{Station}
+use Rattle.state.specs.Slots.{slotAt, held, complete}
+use Rattle.state.specs.Decision.{isSound}
+use Rattle.room.specs.Move.{letGo}
+use Rattle.room.specs.File.{fileOctets}
+use Rattle.station.specs.declared.Answered.{Answered}
+use Rattle.station.specs.declared.Asked.{Asked}
+use Rattle.station.specs.declared.Asked.the-variants.{Refused, Complete, Incomplete}
+
+abbrev pub answered : ℕ → Station → Answered
+answered n s = record { answer = n; station = s }
+
+-- "11: slot 32 or more, or not held"
+abbrev pub isHeld : Station → ℕ → Bool
+isHeld s k = ltb k 32 && held (slotAt s k)
+
+-- what every call that names a slot asks first: "2: state not sound", then 11; then it is known whether the file is complete
+unfoldable pub asked : Station → ℕ → Asked
+asked s k =
+    if not (isSound s) then Refused 2
+    else if not (isHeld s k) then Refused 11
+    else if complete (slotAt s k) then Complete k
+    else Incomplete k
+
+-- "12: .. release of an incomplete file"
+unfoldable pub releasedAs : Station → Asked → Answered
+releasedAs s (Refused n) = answered n s
+releasedAs s (Incomplete k) = answered 12 s
+releasedAs s (Complete k) = answered 0 (letGo s k)
+
+unfoldable pub released : Station → ℕ → Answered
+released s k = releasedAs s (asked s k)
+
+-- "13: drop of a complete one"
+unfoldable pub droppedAs : Station → Asked → Answered
+droppedAs s (Refused n) = answered n s
+droppedAs s (Incomplete k) = answered 0 (letGo s k)
+droppedAs s (Complete k) = answered 13 s
+
+unfoldable pub dropped : Station → ℕ → Answered
+dropped s k = droppedAs s (asked s k)
+
+-- everything that comes out of a read; state and store stay, for they are taken by value and lent for reading
+pub record ReadOutcome : Type 0 where
+  pub answer : ℕ
+  pub buffer : List ℕ
+
+abbrev pub readGives : ℕ → List ℕ → ReadOutcome
+readGives n buffer = record { answer = n; buffer = buffer }
+
+-- "store not whole blocks, 1 to 4,096, as many as at set-up"
+abbrev pub storeFits : ℕ → List ℕ → Bool
+storeFits blocks store = leb 1 blocks && leb blocks 4096 && eqb (length store) (8190 * blocks)
+
+-- n octets from an offset on lie within a file of so many octets: "length 0 at the very end is allowed"
+abbrev pub within : ℕ → ℕ → ℕ → Bool
+within size offset n = leb offset size && leb n (size - offset)
+
+-- "12: read .. of an incomplete file"; "14: read passes the file's end"; "A read copies file octets from a given offset .. to fill a lent
+-- buffer"
+unfoldable pub readAs : Station → List ℕ → ℕ → List ℕ → Asked → ReadOutcome
+readAs s store offset buffer (Refused n) = readGives n buffer
+readAs s store offset buffer (Incomplete k) = readGives 12 buffer
+readAs s store offset buffer (Complete k) =
+    if within (octetsOfBits (slotAt s k .bits)) offset (length buffer)
+    then readGives 0 (part offset (length buffer) (fileOctets s store k))
+    else readGives 14 buffer
+
+unfoldable pub readOut : Station → List ℕ → ℕ → ℕ → List ℕ → ReadOutcome
+readOut s store k offset buffer =
+    if storeFits (s .blocks) store then readAs s store offset buffer (asked s k) else readGives 1 buffer

@@ -1,0 +1,212 @@
+// The station: every call that its user makes.
+//
+// A state goes in by value and comes back by value; desks, store, event list and buffers are lent. No call asks anything of what comes in.
+// Each contract is one equation between everything that comes out and a definition in specs/ of what came in.
+use frame::Channel;
+use state::Desk;
+use state::Station;
+use transport::Transport;
+ghost use mathlib.Core.Path.{_≡_};
+ghost use mathlib.Core.Bool.{true};
+ghost use mathlib.Core.List.{_++_, map};
+ghost use Prim.Native.Nat.{_-_, _≤_, _<_};
+ghost use lib.ListN.{length, replicate};
+ghost use Rattle.state.specs.Slots.{allZeroState, slotAt, complete};
+ghost use Rattle.state.specs.Decision.{isSound};
+ghost use Rattle.room.specs.Move.{letGo};
+ghost use Rattle.station.specs.SetUp.{setUpGives, wholeBlocks, channelOf, freshStation, setUp};
+ghost use Rattle.station.specs.Files.{answered, asked, released, dropped, storeFits, readGives, readAs, readOut};
+
+// A number of the paper, and the state.
+pub struct Answered {
+    pub answer: u8,
+    pub station: Station,
+}
+
+fn say(answer: u8, station: Station) -> Answered
+    ensures { λ r. ⌜ r ≡ answered answer station ⌝ }
+{
+    Answered {
+        answer: answer,
+        station: station,
+    }
+}
+
+// The channels watched, in the order named.
+fn watch(channels: &[u8]) -> [Channel; 8]
+    requires { ⌜ length (now channels) ≤ 8 ⌝ }
+    ensures { λ r. ⌜ r ≡ map channelOf (now (channels .entry)) ++ replicate (8 - length (now (channels .entry))) (channelOf 0) ⌝ }
+{
+    let none = Channel(0);
+    let mut watched = [none; 8];
+    let mut i: usize = 0;
+    while i < channels.len() {
+        let channel = Channel(channels[i]);
+        watched[i] = channel;
+        i += 1;
+    }
+    watched
+}
+
+fn fresh_station(spacecraft: u8, channels: &[u8], blocks: u16) -> Station
+    requires { ⌜ length (now channels) ≤ 8 ⌝ }
+    ensures { λ r. ⌜ r ≡ freshStation spacecraft (now (channels .entry)) blocks ⌝ }
+{
+    let watched = watch(channels);
+    let mut s = Station::zero();
+    s.spacecraft = spacecraft;
+    s.channels = channels.len() as u8;
+    s.watched = watched;
+    s.blocks = blocks;
+    s
+}
+
+// The answer of a refused set-up.
+fn not_set_up(answer: u8) -> Answered
+    ensures { λ r. ⌜ r ≡ answered answer allZeroState ⌝ }
+{
+    let station = Station::zero();
+    say(answer, station)
+}
+
+// Whether the store lent is 1 to 4,096 whole blocks.
+fn whole_blocks(store: &[u8]) -> bool
+    ensures { λ r. ⌜ r ≡ wholeBlocks (now (store .entry)) ⌝ }
+{
+    if store.len() % Transport::BLOCK != 0 {
+        return false;
+    }
+    let blocks = store.len() / Transport::BLOCK;
+    if blocks == 0 {
+        return false;
+    }
+    blocks <= Station::MOST_BLOCKS as usize
+}
+
+// Set-up: a spacecraft, the channels to watch, the desks and the store. Answers 0, 1 or 10.
+pub fn set_up(spacecraft: u8, channels: &[u8], desks: &mut [u8], store: &[u8]) -> Answered
+    ensures { λ r. ⌜ setUpGives (r .answer) (r .station) (now (desks .exit)) ≡ setUp spacecraft (now (channels .entry)) (now (desks .entry)) (now (store .entry)) ⌝ }
+{
+    if !state::good_channels(channels) {
+        return not_set_up(10);
+    }
+    if desks.len() != Desk::SIZE * channels.len() {
+        return not_set_up(1);
+    }
+    if !whole_blocks(store) {
+        return not_set_up(1);
+    }
+    let n = desks.len();
+    octets::blank(desks, 0, n);
+    let blocks = store.len() / Transport::BLOCK;
+    let station = fresh_station(spacecraft, channels, blocks as u16);
+    say(0, station)
+}
+
+// What is known of a slot that a call names.
+pub enum Asked {
+    Refused(u8),
+    Complete(usize),
+    Incomplete(usize),
+}
+
+fn ask(s: Station, slot: u16) -> Asked
+    ensures { λ r. ⌜ r ≡ asked s slot ⌝ }
+{
+    if !state::is_sound(s) {
+        return Asked::Refused(2);
+    }
+    let k = slot as usize;
+    if k >= Station::SLOTS {
+        return Asked::Refused(11);
+    }
+    let x = s.slots[k];
+    if !x.is_held() {
+        return Asked::Refused(11);
+    }
+    if x.is_complete() {
+        return Asked::Complete(k);
+    }
+    Asked::Incomplete(k)
+}
+
+// The file of slot k let go.
+fn gone(s: Station, k: usize) -> Answered
+    requires { ⌜ (k < 32) × (s .blocks ≤ 4096) ⌝ }
+    ensures { λ r. ⌜ r ≡ answered 0 (letGo s k) ⌝ }
+{
+    let after = room::let_go(s, k);
+    say(0, after)
+}
+
+// Lets a complete file go. Answers 0, 2, 11 or 12.
+pub fn release(s: Station, slot: u16) -> Answered
+    ensures { λ r. ⌜ r ≡ released s slot ⌝ }
+{
+    let a = ask(s, slot);
+    match a {
+        Asked::Refused(n) => say(n, s),
+        Asked::Incomplete(_) => say(12, s),
+        Asked::Complete(k) => gone(s, k),
+    }
+}
+
+// Lets an incomplete file go. Answers 0, 2, 11 or 13.
+pub fn drop_file(s: Station, slot: u16) -> Answered
+    ensures { λ r. ⌜ r ≡ dropped s slot ⌝ }
+{
+    let a = ask(s, slot);
+    match a {
+        Asked::Refused(n) => say(n, s),
+        Asked::Incomplete(k) => gone(s, k),
+        Asked::Complete(_) => say(13, s),
+    }
+}
+
+// Whether the store lent has as many octets as the state's blocks.
+fn store_fits(blocks: u16, store: &[u8]) -> bool
+    ensures { λ r. ⌜ r ≡ storeFits blocks (now (store .entry)) ⌝ }
+{
+    if blocks == 0 {
+        return false;
+    }
+    if blocks > Station::MOST_BLOCKS {
+        return false;
+    }
+    store.len() == Transport::BLOCK * (blocks as usize)
+}
+
+// Octets of the complete file in slot k, from an offset on, to fill a buffer.
+fn fill(s: Station, store: &[u8], k: usize, offset: u64, buffer: &mut [u8]) -> u8
+    requires { ⌜ (storeFits (s .blocks) (now store) ≡ true) × (isSound s ≡ true) ⌝ }
+    requires { ⌜ (k < 32) × (complete (slotAt s k) ≡ true) ⌝ }
+    ensures { λ r. ⌜ readGives r (now (buffer .exit)) ≡ readAs s (now (store .entry)) offset (now (buffer .entry)) (Asked.Complete k) ⌝ }
+{
+    let x = s.slots[k];
+    let size = transport::octets_of_bits(x.bits);
+    if offset > size {
+        return 14;
+    }
+    if buffer.len() as u64 > size - offset {
+        return 14;
+    }
+    let blocks = s.blocks as usize;
+    let from = offset as usize + Transport::HEADER;
+    room::copy_out(&s.owner, blocks, k as u8 + 1, store, from, buffer);
+    0
+}
+
+// File octets from an offset on, to fill a buffer. Answers 0, 1, 2, 11, 12 or 14.
+pub fn read_file(s: Station, store: &[u8], slot: u16, offset: u64, buffer: &mut [u8]) -> u8
+    ensures { λ r. ⌜ readGives r (now (buffer .exit)) ≡ readOut s (now (store .entry)) slot offset (now (buffer .entry)) ⌝ }
+{
+    if !store_fits(s.blocks, store) {
+        return 1;
+    }
+    let a = ask(s, slot);
+    match a {
+        Asked::Refused(n) => n,
+        Asked::Incomplete(_) => 12,
+        Asked::Complete(k) => fill(s, store, k, offset, buffer),
+    }
+}

@@ -1,0 +1,85 @@
+-- `vectors::answers::answer` is safe: a question has at most 1,024 octets. Assumes nothing.
+use mathlib.Core.Path.{subst}
+use Prim.Native.Nat.{_≤_}
+use native.Mathlib.Omega.{arith}
+use borrow.Author.Needs.{needs}
+use Rattle.vectors.specs.Question.{countOf}
+use Rattle.vectors.specs.declared.digits.Decoded.{Decoded}
+use Rattle.vectors.proofs.answers.answer.Statement.{statement}
+use Rattle.vectors.proofs.answers.answer.Tie as tie
+
+refusal-requires : tie.Need-refusal-requires
+refusal-requires c κs = search needs
+
+returns : tie.Need-returns
+returns c = search needs
+
+sub-question : tie.Need-sub-question
+sub-question c = search needs
+
+part-question-start : tie.Need-part-question-start
+part-question-start c = search needs
+
+part-question-end : tie.Need-part-question-end
+part-question-end c = search needs
+
+slice-aggregate-question : tie.Need-slice-aggregate-question
+slice-aggregate-question c = search needs
+
+question-requires : tie.Need-question-requires
+question-requires c κs = search needs
+
+enum-known-d : tie.Need-enum-known-d
+enum-known-d c = search needs
+
+shared-slice-read-answer-to : tie.Need-shared-slice-read-answer-to
+shared-slice-read-answer-to c = search needs
+
+sub-answer-to : tie.Need-sub-answer-to
+sub-answer-to c = search needs
+
+part-answer-to-start : tie.Need-part-answer-to-start
+part-answer-to-start c = search needs
+
+part-answer-to-end : tie.Need-part-answer-to-end
+part-answer-to-end c =
+    let told = c .before .before .before .d .given .1 in
+    let few = c .before .before .before .before .before .before .question .ensures .0 in
+    omega (arith, subst (λ (d : Decoded). countOf d ≤ 1024) told few)
+
+answer-to-requires : tie.Need-answer-to-requires
+answer-to-requires c κs = search needs
+
+enum-told : tie.Need-enum-told
+enum-told c = search needs
+
+refusal-requires-2 : tie.Need-refusal-requires-2
+refusal-requires-2 c κs = search needs
+
+returns-2 : tie.Need-returns-2
+returns-2 c = search needs
+
+returns-3 : tie.Need-returns-3
+returns-3 c = search needs
+
+pub answer-spec : {M : Type 1} → statement M
+answer-spec =
+    tie.close
+    (tie.spec
+    refusal-requires
+    returns
+    sub-question
+    part-question-start
+    part-question-end
+    slice-aggregate-question
+    question-requires
+    enum-known-d
+    shared-slice-read-answer-to
+    sub-answer-to
+    part-answer-to-start
+    part-answer-to-end
+    answer-to-requires
+    enum-told
+    refusal-requires-2
+    returns-2
+    returns-3)
