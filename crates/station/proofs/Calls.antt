@@ -4,7 +4,7 @@ use mathlib.Core.Path.{_≡_, refl, _∙_}
 use mathlib.Core.Bool.{Bool, true, false, not, _&&_, false≢true}
 use mathlib.Core.Logic.{_↔_}
 use mathlib.Core.List.{List, [], _∷_}
-use Prim.Native.Nat.{ℕ, _*_, _/_, _<_}
+use Prim.Native.Nat.{ℕ, _*_, _/_, _≤_, _<_}
 use native.Mathlib.Decide.{ℕ-discrete}
 use native.Mathlib.Omega.{arith}
 use borrow.Author.Tests.{not-true, not-false, ltb-true, lt-ltb, le-leb, eqb-true, eq-eqb}
@@ -28,7 +28,7 @@ use Rattle.station.specs.Files.{answered, isHeld, asked, releasedAs, rel
 use Rattle.station.specs.declared.Answered.{Answered}
 use Rattle.station.specs.declared.Asked.{Asked}
 use Rattle.station.specs.declared.Asked.the-variants.{Refused, Complete, Incomplete}
-use Rattle.station.specs.Answers.{Reason, decided, setUpSays, slotSays, releaseSays, dropSays, readSays}
+use Rattle.station.specs.Answers.{Reason, decided, applies, setUpSays, slotSays, releaseSays, dropSays, readSays}
 use Rattle.station.specs.Answers.Reason.{_when_}
 use Rattle.station.proofs.Asking.{complete-held}
 use Rattle.station.proofs.Decided.{None, Outcome, outcome, never}
@@ -95,6 +95,36 @@ pub setUp-outcome : (craft : ℕ) (channels desks store : List ℕ) → Outcome 
 unfolding among
 setUp-outcome craft channels desks store =
     rw (setUp-is craft channels desks store) (outcome _ (setUpSays channels desks store) _ _ refl (λ n. refl) refl)
+
+-- the numbers that each call can give
+module _ (s : Station) (k : ℕ) where
+  pub release-answers : among (released s k .answer) (0 ∷ 2 ∷ 11 ∷ 12 ∷ []) ≡ true
+  release-answers = release-outcome s k .one-of
+
+  pub drop-answers : among (dropped s k .answer) (0 ∷ 2 ∷ 11 ∷ 13 ∷ []) ≡ true
+  drop-answers = drop-outcome s k .one-of
+
+  pub read-answers : (store : List ℕ) (offset : ℕ) (buffer : List ℕ)
+      → among (readOut s store k offset buffer .answer) (0 ∷ 1 ∷ 2 ∷ 11 ∷ 12 ∷ 14 ∷ []) ≡ true
+  read-answers store offset buffer = read-outcome s k store offset buffer .one-of
+
+pub setUp-answers : (craft : ℕ) (channels desks store : List ℕ) → among (setUp craft channels desks store .answer) (0 ∷ 10 ∷ 1 ∷ []) ≡ true
+setUp-answers craft channels desks store = setUp-outcome craft channels desks store .one-of
+
+-- "The lowest number that applies is given, except that at set-up 10 comes before 1"
+module _ (s : Station) (k : ℕ) where
+  pub release-lowest : (n : ℕ) → applies (releaseSays s k) n ≡ true → (1 ≤ released s k .answer) × (released s k .answer ≤ n)
+  release-lowest = release-outcome s k .lowest refl
+
+  pub drop-lowest : (n : ℕ) → applies (dropSays s k) n ≡ true → (1 ≤ dropped s k .answer) × (dropped s k .answer ≤ n)
+  drop-lowest = drop-outcome s k .lowest refl
+
+  pub read-lowest : (store : List ℕ) (offset : ℕ) (buffer : List ℕ) (n : ℕ) → applies (readSays s store k offset (length buffer)) n ≡ true
+      → (1 ≤ readOut s store k offset buffer .answer) × (readOut s store k offset buffer .answer ≤ n)
+  read-lowest store offset buffer = read-outcome s k store offset buffer .lowest refl
+
+pub setUp-ten : (craft : ℕ) (channels desks store : List ℕ) → goodChannels channels ≡ false → setUp craft channels desks store .answer ≡ 10
+setUp-ten craft channels desks store bad = rw (setUp-is craft channels desks store, bad)
 
 -- none of the reasons that come first holds of a slot
 asked-exactly : (s : Station) (k : ℕ) (rs : List Reason)
@@ -180,7 +210,7 @@ module _ (s : Station) (k : ℕ) (sound : isSound s ≡ true) where
   pub read-never-2 : (store : List ℕ) (offset : ℕ) (buffer : List ℕ) → readOut s store k offset buffer .answer ≡ 2 → ⊥
   read-never-2 store offset buffer = never (read-outcome s k store offset buffer) 2 (omega arith) (rw sound)
 
--- a state with the memory that was lent for it: what a set-up answered by 0 hands over, and every call keeps
+-- a state with the memory that was lent for it, as a set-up answered by 0 hands it over
 pub record Ready (s : Station) (d m : List ℕ) : Type 0 where
   pub sized : Sized s
   pub sound : Sound s
@@ -206,7 +236,7 @@ module _ {s : Station} (k : ℕ) {rs : List Reason} {r : Answered} (g : Goes s k
   pub goes-desks : (desks : List ℕ) → DesksSound s desks → DesksSound (r .station) desks
   goes-desks desks d = goes-cases (λ (t : Station). DesksSound t desks) (λ low. refiled-desks (letGo-refiles s k) desks d) d
 
-  goes-fits : r .station .channels ≡ s .channels × r .station .blocks ≡ s .blocks
+  goes-fits : (r .station .channels ≡ s .channels) × (r .station .blocks ≡ s .blocks)
   unfolding letGo
   goes-fits = goes-cases (λ (t : Station). (t .channels ≡ s .channels) × (t .blocks ≡ s .blocks)) (λ low. (refl, refl)) (refl, refl)
 

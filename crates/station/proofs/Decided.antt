@@ -3,13 +3,13 @@ use mathlib.Core.Path.{_≡_, refl, sym, ap, _∙_}
 use mathlib.Core.Bool.{Bool, true, false, _&&_, _||_, and-false, or-true, true≢false, false≢true}
 use mathlib.Core.Logic.{_⊎_, inl, inr, ⊎-elim, _↔_}
 use mathlib.Core.List.{List, [], _∷_}
-use Prim.Native.Nat.{ℕ, _≤_, _<_}
+use Prim.Native.Nat.{ℕ, _-_, _≤_, _<_}
 use native.Mathlib.Omega.{arith}
-use borrow.Author.Tests.{eq-eqb, eqb-true, ltb-true}
+use borrow.Author.Tests.{eq-eqb, eqb-true, lt-ltb, ltb-true}
 use lib.Dec.{ltb, eqb}
 use Rattle.octets.proofs.Lists.{if-cases}
 use Rattle.state.specs.Decision.{among}
-use Rattle.state.proofs.Each.{and-left, and-right}
+use Rattle.state.proofs.Each.{and-left, and-right, and-both}
 use Rattle.station.specs.Answers.{Reason, decided, numbers, applies}
 use Rattle.station.specs.Answers.Reason.{_when_}
 
@@ -55,21 +55,26 @@ or-cases : (a b : Bool) → (a || b) ≡ true → (a ≡ true) ⊎ (b ≡ true)
 or-cases true b e = inl e
 or-cases false b e = inr e
 
--- of numbers that rise, none that applies is less than the first
-at-least : (n : ℕ) (b : Bool) (rs : List Reason) → rising n rs ≡ true → (m : ℕ) → applies ((n when b) ∷ rs) m ≡ true → n ≤ m
-at-least n b [] up m e =
-    ⊎-elim (λ q. omega (arith, eqb-true n m (and-left (eqb n m) b q))) (λ q. absurd (false≢true q)) (or-cases (eqb n m && b) false e)
-at-least n b ((k when c) ∷ rs) up m e =
-    ⊎-elim (λ q. omega (arith, eqb-true n m (and-left (eqb n m) b q)))
-    (λ q. omega (arith, ltb-true n k (and-left (ltb n k) (rising k rs) up), at-least k c rs (and-right (ltb n k) (rising k rs) up) m q))
-    (or-cases (eqb n m && b) (applies ((k when c) ∷ rs) m) e)
+rises : (l n : ℕ) (b : Bool) (rs : List Reason) → rising l ((n when b) ∷ rs) ≡ true → (l < n) × (rising n rs ≡ true)
+rises l n b rs up = (ltb-true l n (and-left (ltb l n) (rising n rs) up), and-right (ltb l n) (rising n rs) up)
 
+beyond : (l : ℕ) (rs : List Reason) → rising l rs ≡ true → (m : ℕ) → applies rs m ≡ true → l < m
+beyond l [] up m e = absurd (false≢true e)
+beyond l ((n when b) ∷ rs) up m e =
+    let (over, rest) = rises l n b rs up in
+    ⊎-elim (λ q. omega (arith, eqb-true n m (and-left (eqb n m) b q))) (λ q. omega (arith, beyond n rs rest m q))
+    (or-cases (eqb n m && b) (applies rs m) e)
+
+-- of numbers that rise, the first that applies is the lowest that does
 first-lowest : {rs : List Reason} {n : ℕ} → First rs n → (l : ℕ) → rising l rs ≡ true → (m : ℕ) → applies rs m ≡ true → (l < n) × (n ≤ m)
 first-lowest (here {n} {b} {rs} p) l up m e =
-    (ltb-true l n (and-left (ltb l n) (rising n rs) up), at-least n b rs (and-right (ltb l n) (rising n rs) up) m e)
-first-lowest (later {n = k} {rs = rs} p f) l up m e =
-    let rest = first-lowest f k (and-right (ltb l k) (rising k rs) up) m (rw (p, and-false) at e) in
-    (omega (arith, ltb-true l k (and-left (ltb l k) (rising k rs) up), rest .0), rest .1)
+    let (over, rest) = rises l n b rs up in
+    let before : n - 1 < n = omega arith in
+    (over, omega (arith, beyond (n - 1) ((n when b) ∷ rs) (and-both (lt-ltb (n - 1) n before) rest) m e))
+first-lowest (later {n = k} {b = b} {rs = rs} p f) l up m e =
+    let (over, rest) = rises l k b rs up in
+    let lowest = first-lowest f k rest m (rw (p, and-false) at e) in
+    (omega (arith, lowest .0), lowest .1)
 
 -- the outcome r of a call with these reasons: d where none applies, else f of the number
 pub record Outcome {A : Type 0} (answer : A → ℕ) (rs : List Reason) (d : A) (f : ℕ → A) (r : A) : Type 0 where
@@ -84,7 +89,7 @@ pub record Outcome {A : Type 0} (answer : A → ℕ) (rs : List Reason) (d : A) 
 pub outcome : {A : Type 0} (answer : A → ℕ) (rs : List Reason) (d : A) (f : ℕ → A) → answer d ≡ 0 → ((n : ℕ) → answer (f n) ≡ n)
     → among 0 (numbers rs) ≡ false → Outcome answer rs d f (decided rs d f)
 unfolding among
-outcome answer rs d f zero number some =
+outcome answer rs d f zero number counted =
     decided-cases (Outcome answer rs d f) rs
     (λ g.
     record {
@@ -95,11 +100,11 @@ outcome answer rs d f zero number some =
       lowest = λ up m e. absurd (true≢false (sym e ∙ none-applies rs g m));
     })
     (λ n g.
-    let not : n ≡ 0 → ⊥ = λ e. true≢false (sym (first-among g) ∙ rw e some) in
+    let some : n ≡ 0 → ⊥ = λ e. true≢false (sym (first-among g) ∙ rw e counted) in
     record {
       one-of = rw (number n, first-among g, or-true);
-      zero = (λ e. absurd (not (sym (number n) ∙ e)), λ h. absurd (first-some g h));
-      done = λ e. absurd (not (sym (number n) ∙ e));
+      zero = (λ e. absurd (some (sym (number n) ∙ e)), λ h. absurd (first-some g h));
+      done = λ e. absurd (some (sym (number n) ∙ e));
       refused = λ h. rw (number n) (refl, first-applies g);
       lowest = λ up m e. rw (number n) (first-lowest g 0 up m e);
     })
@@ -107,4 +112,4 @@ outcome answer rs d f zero number some =
 -- a number whose reason does not apply is not given
 pub never : {A : Type 0} {answer : A → ℕ} {rs : List Reason} {d : A} {f : ℕ → A} {r : A} → Outcome answer rs d f r
     → (m : ℕ) → 1 ≤ m → applies rs m ≡ false → answer r ≡ m → ⊥
-never {rs = rs} o m some not e = true≢false (sym (o .refused (λ z. omega arith) .1) ∙ ap (applies rs) e ∙ not)
+never {rs = rs} o m some off e = true≢false (sym (o .refused (λ z. omega arith) .1) ∙ ap (applies rs) e ∙ off)
