@@ -4,4 +4,5 @@ pub mod Fresh
 pub mod Asking
 pub mod Decided
 pub mod Calls
+pub mod Frames
 pub mod Wild

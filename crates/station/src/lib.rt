@@ -3,19 +3,26 @@
 // A state goes in by value and comes back by value; desks, store, event list and buffers are lent. No call asks anything of what comes in.
 // Each contract is one equation between everything that comes out and a definition in specs/ of what came in.
 use frame::Channel;
+use frame::Examined;
+use frame::Frame;
 use state::Desk;
 use state::Station;
 use transport::Transport;
 ghost use mathlib.Core.Path.{_≡_};
-ghost use mathlib.Core.Bool.{true};
+ghost use mathlib.Core.Bool.{true, _&&_};
 ghost use mathlib.Core.List.{_++_, map};
 ghost use Prim.Native.Nat.{_-_, _≤_, _<_};
+ghost use lib.Dec.{leb};
 ghost use lib.ListN.{length, replicate};
 ghost use Rattle.state.specs.Slots.{allZeroState, slotAt, complete};
 ghost use Rattle.state.specs.Decision.{isSound};
 ghost use Rattle.room.specs.Move.{letGo};
-ghost use Rattle.station.specs.SetUp.{setUpGives, wholeBlocks, channelOf, freshStation, setUp};
+ghost use Rattle.station.specs.SetUp.{setUpGives, desksFit, wholeBlocks, channelOf, freshStation, setUp};
 ghost use Rattle.station.specs.Files.{answered, asked, released, dropped, storeFits, readGives, readAs, readOut};
+ghost use Rattle.station.specs.Frame.{frameGives, framed};
+
+// The least numbers of an event list: three for each of 300 events.
+const LEAST_LIST: usize = 900;
 
 // A number of the paper, and the state.
 pub struct Answered {
@@ -208,5 +215,84 @@ pub fn read_file(s: Station, store: &[u8], slot: u16, offset: u64, buffer: &mut 
         Asked::Refused(n) => n,
         Asked::Incomplete(_) => 12,
         Asked::Complete(k) => fill(s, store, k, offset, buffer),
+    }
+}
+
+// What comes of a frame: a number of the paper, the events, and the state.
+pub struct Framed {
+    pub answer: u8,
+    pub events: usize,
+    pub station: Station,
+}
+
+fn refuse(answer: u8, station: Station) -> Framed
+    ensures { λ r. ⌜ r ≡ record { answer = answer; events = 0; station = station } ⌝ }
+{
+    Framed {
+        answer: answer,
+        events: 0,
+        station: station,
+    }
+}
+
+// Whether desks, store and event list are lent as a state of so many channels and blocks asks.
+fn lent_right(channels: u8, blocks: u16, desks: &[u8], store: &[u8], list: &[u16]) -> bool
+    ensures { λ r. ⌜ r ≡ (desksFit channels (now (desks .entry)) && storeFits blocks (now (store .entry)) && leb 900 (length (now (list .entry)))) ⌝ }
+{
+    if desks.len() != Desk::SIZE * (channels as usize) {
+        return false;
+    }
+    if !store_fits(blocks, store) {
+        return false;
+    }
+    list.len() >= LEAST_LIST
+}
+
+// One frame. Answers 0 to 9; after 0 the events fill the list from its start.
+pub fn take_frame(
+    s: Station,
+    desks: &mut [u8],
+    store: &mut [u8],
+    list: &mut [u16],
+    octets: &[u8],
+) -> Framed
+    ensures { λ r. ⌜ frameGives (r .answer) (r .events) (r .station) (now (desks .exit)) (now (store .exit)) (now (list .exit)) ≡ framed s (now (desks .entry)) (now (store .entry)) (now (list .entry)) (now (octets .entry)) ⌝ }
+{
+    if !lent_right(s.channels, s.blocks, desks, store, list) {
+        return refuse(1, s);
+    }
+    if !state::is_sound(s) {
+        return refuse(2, s);
+    }
+    let positions = s.desks;
+    if !state::are_desks_sound(positions, s.channels, desks) {
+        return refuse(2, s);
+    }
+    let mut plain = [0u8; Frame::CODED];
+    let watched = s.watched;
+    let examined = frame::examine(octets, &mut plain, s.spacecraft, watched, s.channels);
+    match examined {
+        Examined::Refused(n) => {
+            return refuse(n, s);
+        }
+        Examined::Good(a) => {
+            let i = a.desk;
+            let channel = watched[i];
+            let done = zone::walk_frame(
+                channel,
+                s,
+                a,
+                &plain[Frame::ZONE_AT..Frame::UNIT],
+                desks,
+                store,
+                list,
+            );
+            let station = done.station;
+            return Framed {
+                answer: 0,
+                events: done.events,
+                station: station,
+            };
+        }
     }
 }

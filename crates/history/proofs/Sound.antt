@@ -1,0 +1,140 @@
+-- Every world that a run reaches is sound, and no call on it is answered by 2. Assumes nothing.
+use mathlib.Core.Path.{_≡_, sym, ap, _∙_}
+use mathlib.Core.Bool.{true, _&&_, true≢false}
+use mathlib.Core.List.{List, [], _∷_}
+use Prim.Native.Nat.{ℕ, _*_, _<_}
+use native.Mathlib.Omega.{arith}
+use borrow.Author.Tests.{eqb-true, eq-eqb, le-leb}
+use lib.Dec.{leb}
+use lib.ListN.{length}
+use Rattle.frame.specs.Header.{derandomised, zoneOf}
+use Rattle.frame.proofs.Answers.{good-size, counter-good}
+use Rattle.frame.proofs.Sizes.{length-derandomised, length-zone}
+use Rattle.state.specs.Decision.{isSound, areDesksSound}
+use Rattle.state.proofs.Each.{and-right, and-both}
+use Rattle.state.proofs.Exactly.{sound-true, desks-true}
+use Rattle.zone.specs.Walk.{walked}
+use Rattle.zone.specs.Contract.{Lent}
+use Rattle.zone.proofs.Walks.{Kept, walked-keeps}
+use Rattle.station.specs.declared.Answered.{Answered}
+use Rattle.station.specs.Answers.{Reason, slotSays}
+use Rattle.station.specs.Frame.{channelAt}
+use Rattle.station.proofs.Calls.{Goes, Ready, setUp-ready, goes-ready, release-outcome, drop-outcome, release-never-2, drop-never-2, read-never-2}
+use Rattle.history.specs.Run.{World, Call, answer, after, run, Start, fresh, SoundWorld}
+use Rattle.history.specs.Run.Call.{frame, read, release, drop}
+use Rattle.history.specs.Demands.{EveryRun, NeverUnsound}
+use Rattle.history.proofs.Framing.{Taken, Framing, framing, channel-watched, taken-desk, taken-list}
+use Rattle.history.proofs.Framing.Framing.{refuses, takes}
+
+-- the same in the words of the calls' laws
+ready-sound : (w : World) → Ready (w .station) (w .desks) (w .store) → SoundWorld w
+ready-sound w r =
+    record {
+      sized = r .sized;
+      sound = r .sound;
+      desks = r .desks;
+      desked = eqb-true (length (w .desks)) (8198 * w .station .channels) (r .desks-fit);
+      stored =
+          eqb-true (length (w .store)) (8190 * w .station .blocks)
+          (and-right (leb 1 (w .station .blocks) && leb (w .station .blocks) 4096) _ (r .store-fits));
+    }
+
+sound-ready : (w : World) → SoundWorld w → Ready (w .station) (w .desks) (w .store)
+sound-ready w h =
+    record {
+      sized = h .sized;
+      sound = h .sound;
+      desks = h .desks;
+      desks-fit = eq-eqb _ _ (h .desked);
+      store-fits =
+          and-both
+          (and-both (le-leb 1 (w .station .blocks) (h .sound .setUp .store)) (le-leb (w .station .blocks) 4096 (h .sound .setUp .least)))
+          (eq-eqb _ _ (h .stored));
+    }
+
+module _ {w : World} (h : SoundWorld w) where
+  pub world-sound : isSound (w .station) ≡ true
+  world-sound = sound-true (h .sized) (h .sound)
+
+  pub world-desks : areDesksSound (w .station) (w .desks) ≡ true
+  world-desks = desks-true (w .desks) (h .sized) (h .sound) (h .desked) (h .desks)
+
+  module _ {f list : List ℕ} (t : Taken w f list) where
+    pub taken-low : t .frame .desk < w .station .channels
+    taken-low = taken-desk t (h .sized) (h .sound .setUp .few)
+
+    pub taken-counter : t .frame .counter .0 < 0x1000000
+    taken-counter = counter-good _ _ f (t .frame) (t .good)
+
+    pub taken-keeps :
+        Kept (w .station) (w .desks) (w .store) (t .frame .desk)
+        (walked (channelAt (w .station) (t .frame .desk)) (w .station) (w .desks) (w .store) (zoneOf (derandomised f)) (t .frame))
+    taken-keeps =
+        let s = w .station in
+        let c = channelAt s (t .frame .desk) in
+        let zone = zoneOf (derandomised f) in
+        let lent : Lent c s (t .frame) zone (w .desks) (w .store) list =
+        record {
+          sound = h .sound;
+          watched = channel-watched s (t .frame .desk) taken-low;
+          desk = taken-low;
+          frame = length-zone (derandomised f) (length-derandomised f (good-size _ _ f (t .frame) (t .good)));
+          desked = h .desked;
+          stored = h .stored;
+          listed = taken-list t;
+        } in
+        walked-keeps c s (t .frame) zone (w .desks) (w .store) list (h .sized) lent (h .desks) taken-counter
+
+  frame-keeps : (f list : List ℕ) → Framing w f list → SoundWorld (after w (frame f list))
+  unfolding after
+  frame-keeps f list (refuses n one nine e two) =
+      rw e (record { sized = h .sized; sound = h .sound; desks = h .desks; desked = h .desked; stored = h .stored })
+  frame-keeps f list (takes t) =
+      let k = taken-keeps t in
+      rw (t .gives)
+      (record {
+        sized = k .sized;
+        sound = k .sound;
+        desks = k .octets;
+        desked = k .desked ∙ h .desked ∙ ap (λ (n : ℕ). 8198 * n) (sym (k .channels));
+        stored = k .stored ∙ h .stored ∙ ap (λ (n : ℕ). 8190 * n) (sym (k .blocks));
+      })
+
+  goes-keeps : (k : ℕ) {rs : List Reason} {r : Answered} → Goes (w .station) k (slotSays (w .station) k rs) r
+      → SoundWorld (record { station = r .station; desks = w .desks; store = w .store })
+  goes-keeps k {r = r} g =
+      ready-sound (record { station = r .station; desks = w .desks; store = w .store }) (goes-ready k g (w .desks) (w .store) (sound-ready w h))
+
+  pub after-sound : (c : Call) → SoundWorld (after w c)
+  unfolding after
+  after-sound (frame f list) = frame-keeps f list (framing w f list)
+  after-sound (read k offset buffer) = h
+  after-sound (release k) = goes-keeps k (release-outcome (w .station) k)
+  after-sound (drop k) = goes-keeps k (drop-outcome (w .station) k)
+
+  frame-never-2 : (f list : List ℕ) → Framing w f list → answer w (frame f list) ≡ 2 → ⊥
+  unfolding answer
+  frame-never-2 f list (refuses n one nine e two) q =
+      true≢false (sym (and-both world-sound world-desks) ∙ two (sym (ap (λ r. r .answer) e) ∙ q))
+  frame-never-2 f list (takes t) q = omega (arith, ap (λ r. r .answer) (t .gives))
+
+  pub answered-not-2 : (c : Call) → answer w c ≡ 2 → ⊥
+  unfolding answer
+  answered-not-2 (frame f list) = frame-never-2 f list (framing w f list)
+  answered-not-2 (read k offset buffer) = read-never-2 (w .station) k world-sound (w .store) offset buffer
+  answered-not-2 (release k) = release-never-2 (w .station) k world-sound
+  answered-not-2 (drop k) = drop-never-2 (w .station) k world-sound
+
+pub run-sound : {w : World} → SoundWorld w → (cs : List Call) → SoundWorld (run w cs)
+unfolding run
+run-sound h [] = h
+run-sound h (c ∷ cs) = run-sound (after-sound h c) cs
+
+pub fresh-sound : (x : Start) → SoundWorld (fresh x)
+fresh-sound x = ready-sound (fresh x) (setUp-ready (x .spacecraft) (x .channels) (x .desks) (x .store) (x .good))
+
+-- "From a set-up answered by 0, with state and memory handed back untouched after every call, no call is answered by 2."
+pub every-sound : EveryRun NeverUnsound
+every-sound x cs =
+    let h = run-sound (fresh-sound x) cs in
+    record { sound = h; never-2 = answered-not-2 h }

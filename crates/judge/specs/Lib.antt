@@ -1,0 +1,4 @@
+-- What one whole packet does.
+pub mod Event
+pub mod Judge
+pub mod Contract

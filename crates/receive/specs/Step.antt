@@ -1,0 +1,10 @@
+-- How the program's station goes on. Assumes nothing.
+use mathlib.Core.Path.{_≡_}
+use mathlib.Core.List.{List}
+use Prim.Native.Nat.{ℕ}
+use Rattle.state.specs.declared.Station.{Station}
+use Rattle.station.specs.Frame.{FrameOutcome}
+
+-- state, desks and store are those that come of the frame call
+abbrev pub WentOn : FrameOutcome → Station → List ℕ → List ℕ → Type 0
+WentOn o s desks store = (s ≡ o .station) × (desks ≡ o .desks) × (store ≡ o .store)

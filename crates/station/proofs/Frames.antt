@@ -1,0 +1,143 @@
+-- The frame call, case by case: what is lent, the state, the frame's refusals, and what a frame that is not refused is walked with.
+-- Assumes nothing.
+use mathlib.Core.Path.{_≡_, sym, ap, _∙_}
+use mathlib.Core.Bool.{true, false, not, _&&_}
+use mathlib.Core.List.{List}
+use Prim.Native.Nat.{ℕ, _+_, _*_, _≤_, _<_}
+use native.Mathlib.Omega.{arith}
+use borrow.Author.Tests.{eqb-true, leb-true}
+use lib.Dec.{leb, eqb}
+use lib.ListN.{length, take, List·getD-map}
+use lib.Seq.{getD-take, length-take-le}
+use Rattle.octets.specs.Each.{each}
+use Rattle.octets.specs.Number.{part}
+use Rattle.frame.specs.declared.Accepted.{Accepted}
+use Rattle.frame.specs.declared.Examined.{Examined}
+use Rattle.frame.specs.declared.Examined.the-variants.{Refused, Good}
+use Rattle.frame.specs.Header.{derandomised, zoneOf}
+use Rattle.frame.specs.Refusals.{examined, plainAfter}
+use Rattle.frame.proofs.Answers.{good-framed, good-size, desk-good}
+use Rattle.frame.proofs.Framing.{plain-framed}
+use Rattle.frame.proofs.Sizes.{length-derandomised, length-zone}
+use Rattle.state.specs.declared.Station.{Station}
+use Rattle.state.specs.Slots.{named, number}
+use Rattle.state.specs.Blocks.{table}
+use Rattle.state.specs.Sound.{Sized, DesksSound}
+use Rattle.state.specs.Decision.{setUpSound, isOwner, slotsSound, blockCounts, noTwins, deskHolds, desksHeld, isSound, areDesksSound}
+use Rattle.state.proofs.Each.{and-left, and-right}
+use Rattle.state.proofs.Exactly.{sound-yes, desks-yes}
+use Rattle.judge.specs.Contract.{Watched}
+use Rattle.zone.specs.declared.Done.{Done}
+use Rattle.zone.specs.Walk.{walked}
+use Rattle.zone.specs.Contract.{Lent, Tells}
+use Rattle.station.specs.SetUp.{desksFit, channelOf}
+use Rattle.station.specs.Files.{storeFits}
+use Rattle.station.specs.Frame.{frameGives, lentRight, channelAt, examinedFrame, framed}
+
+module _ (s : Station) where
+  -- what the test of the desks asks
+  pub desks-hold : isSound s ≡ true → each deskHolds (take (s .channels) (s .desks)) ≡ true
+  unfolding isSound
+  desks-hold e =
+      and-right
+      (setUpSound (s .channels) (named s) (s .blocks) && each isOwner (table s) && slotsSound (named s) (blockCounts (table s) 0 32) (s .slots)
+      && noTwins (s .slots))
+      (each deskHolds (take (s .channels) (s .desks))) e
+
+  pub channels-few : Sized s → isSound s ≡ true → s .channels ≤ 8
+  channels-few z e = sound-yes z e .setUp .few
+
+module _ (s : Station) (desks store list : List ℕ) where
+  -- what refusal 1 looks at
+  module _ (l : lentRight s desks store list ≡ true) where
+    both : (desksFit (s .channels) desks && storeFits (s .blocks) store) ≡ true
+    both = and-left (desksFit (s .channels) desks && storeFits (s .blocks) store) (leb 900 (length list)) l
+
+    pub lent-desks : length desks ≡ 8198 * s .channels
+    lent-desks = eqb-true _ _ (and-left (desksFit (s .channels) desks) (storeFits (s .blocks) store) both)
+
+    lent-store : length store ≡ 8190 * s .blocks
+    lent-store =
+        eqb-true _ _
+        (and-right (leb 1 (s .blocks) && leb (s .blocks) 4096) (eqb (length store) (8190 * s .blocks))
+        (and-right (desksFit (s .channels) desks) (storeFits (s .blocks) store) both))
+
+    lent-list : 900 ≤ length list
+    lent-list = leb-true _ _ (and-right (desksFit (s .channels) desks && storeFits (s .blocks) store) (leb 900 (length list)) l)
+
+  module _ (f : List ℕ) where
+    pub lent-wrong : lentRight s desks store list ≡ false → frameGives 1 0 s desks store list ≡ framed s desks store list f
+    unfolding framed
+    lent-wrong e = rw e
+
+    module _ (l : lentRight s desks store list ≡ true) where
+      pub unsound : isSound s ≡ false → frameGives 2 0 s desks store list ≡ framed s desks store list f
+      unfolding framed
+      unsound e = rw (l, e)
+
+      module _ (e : isSound s ≡ true) where
+        pub desks-unsound : desksHeld 0 (take (s .channels) (s .desks)) desks ≡ false
+            → frameGives 2 0 s desks store list ≡ framed s desks store list f
+        unfolding framed areDesksSound
+        desks-unsound d = rw (l, e, d)
+
+        module _ (d : desksHeld 0 (take (s .channels) (s .desks)) desks ≡ true) {x : Examined}
+            (g : x ≡ examined (s .spacecraft) (take (s .channels) (s .watched)) f) where
+          pub frame-refused : {n : ℕ} → x ≡ Refused n → frameGives n 0 s desks store list ≡ framed s desks store list f
+          unfolding framed areDesksSound examinedFrame
+          frame-refused h = rw (l, e, d, ← g, h)
+
+          module _ {a : Accepted} (h : x ≡ Good a) where
+            accepted : examined (s .spacecraft) (take (s .channels) (s .watched)) f ≡ Good a
+            accepted = sym g ∙ h
+
+            pub zone-here : (before : List ℕ) {plain : List ℕ} → plain ≡ plainAfter f before → part 8 884 plain ≡ zoneOf (derandomised f)
+            unfolding zoneOf
+            zone-here before p = ap (part 8 884) (p ∙ plain-framed f before (good-framed _ _ f a accepted))
+
+            pub desk-watched : Sized s → a .desk < s .channels
+            desk-watched z =
+                omega (
+                  arith,
+                  desk-good _ _ f a accepted,
+                  length-take-le (s .channels) (s .watched) (omega (arith, channels-few s z e, z .watched)),
+                )
+
+            -- the channel of the frame's desk is the one that is watched there
+            watched-here : a .desk < s .channels → Watched s (channelAt s (a .desk))
+            watched-here low =
+                record {
+                  place = a .desk;
+                  low = low;
+                  here =
+                      List·getD-map number (take (s .channels) (s .watched)) (a .desk) (channelOf 0)
+                      ∙ ap number (getD-take (s .channels) (s .watched) (a .desk) (channelOf 0) low);
+                }
+
+            module _ (z : Sized s) (before : List ℕ) {plain : List ℕ} (p : plain ≡ plainAfter f before) where
+              pub lent-on : Lent (channelAt s (a .desk)) s a (part 8 884 plain) desks store list
+              lent-on =
+                  record {
+                    sound = sound-yes z e;
+                    watched = watched-here (desk-watched z);
+                    desk = desk-watched z;
+                    frame =
+                        ap length (zone-here before p)
+                        ∙ length-zone (derandomised f) (length-derandomised f (good-size _ _ f a accepted));
+                    desked = lent-desks l;
+                    stored = lent-store l;
+                    listed = lent-list l;
+                  }
+
+              pub desks-on : DesksSound s desks
+              unfolding areDesksSound
+              desks-on = desks-yes desks z (sound-yes z e) (lent-desks l) d
+
+              pub frame-taken : {r : Done} {desks₁ store₁ list₁ : List ℕ}
+                  → Tells (walked (channelAt s (a .desk)) s desks store (part 8 884 plain) a) 0 list r desks₁ store₁ list₁
+                  → frameGives 0 (r .events) (r .station) desks₁ store₁ list₁ ≡ framed s desks store list f
+              unfolding framed areDesksSound examinedFrame
+              frame-taken t =
+                  let w = walked (channelAt s (a .desk)) s desks store (part 8 884 plain) a in
+                  let k : length (w .events) ≡ 0 + length (w .events) = omega arith in
+                  rw (t .station, t .events, t .desked, t .stored, t .listed, l, e, d, ← g, h, ← zone-here before p, ← k)

@@ -1,0 +1,368 @@
+-- The packet that was held: put together on its desk, it is carried on into the zone, or dropped. Assumes nothing.
+use mathlib.Core.Path.{_≡_, refl, sym, ap, ap₂, _∙_}
+use mathlib.Core.Bool.{Bool, true, false}
+use mathlib.Core.List.{List, [], _∷_, _++_, flatMap}
+use Prim.Native.Nat.{ℕ, min, _+_, _-_, _*_, _≤_, _<_}
+use native.Mathlib.Omega.{arith}
+use lib.ListN.{length, take, drop, length-append}
+use lib.Seq.{take-all, length-take-le}
+use Rattle.octets.specs.Choice.{if_then_else_}
+use Rattle.octets.specs.Number.{part}
+use Rattle.octets.specs.Buffer.{put}
+use Rattle.octets.proofs.Put.{put-nil, length-put}
+use Rattle.frame.specs.declared.Accepted.{Accepted}
+use Rattle.frame.specs.declared.Channel.{Channel}
+use Rattle.frame.specs.Header.{pointerMeaning}
+use Rattle.packet.specs.declared.Packet.{Packet}
+use Rattle.packet.specs.declared.Look.{Look}
+use Rattle.packet.specs.declared.Look.the-variants.{Short, Bad, Good}
+use Rattle.packet.specs.Header.{lookOf, sizeOf}
+use Rattle.packet.proofs.Looks.{look-good, look-tells}
+use Rattle.state.specs.declared.Station.{Station}
+use Rattle.state.specs.Slots.{deskAt}
+use Rattle.state.specs.Sound.{Sized, DesksSound}
+use Rattle.judge.specs.declared.Told.{Told}
+use Rattle.judge.specs.Event.{Event, bare, flat}
+use Rattle.judge.specs.Judge.{judged}
+use Rattle.judge.specs.Contract.{Whole, Tells as TellsJudged}
+use Rattle.judge.proofs.Keeps.{stays-watched, judged-stays, judged-store, judged-sound}
+use Rattle.judge.proofs.Few.{three}
+use Rattle.zone.specs.declared.Done.{Done}
+use Rattle.zone.specs.declared.Fate.{Fate}
+use Rattle.zone.specs.declared.Fate.the-variants.{Dropped, CarriedOn}
+use Rattle.zone.specs.Zone.{split, Reading, agrees, reading}
+use Rattle.zone.specs.Walk.{gap, heldAt, withDesk, withHeld, Walked, walkedFrom, walked}
+use Rattle.zone.specs.Contract.{Lent, startAt, fateOf, Tells, carried}
+use Rattle.zone.proofs.Split.{split-left, unfinished-few, look-carried, carried-lacks, carried-packet}
+use Rattle.zone.proofs.Readings.{from-start, atPointer, onward, reading-none, reading-bad, reading-on, reading-dropped, reading-gap, reading-seamless}
+use Rattle.zone.proofs.Desks.{over-held, more-held, carried-cut}
+use Rattle.zone.proofs.Walks.{walked-from, from-carried, from-longer, held-length, desk-unfinished, led, from-led, tells-led}
+use Rattle.zone.proofs.Ends.{deskAfter, desk-fits}
+
+-- the same promise in other words
+pub tells-as : {w v : Walked} {n : ℕ} {list₀ list desks store : List ℕ} {r : Done} → w ≡ v → Tells v n list₀ r desks store list → Tells w n list₀ r desks store list
+tells-as e t = rw e t
+
+-- desks of which only the frame's differs, and that is set in order afterwards
+abbrev pub Alike : List ℕ → List ℕ → ℕ → Type 0
+Alike desked desks i = (left : List ℕ) → length left ≤ 8198 → withHeld desked i left ≡ withHeld desks i left
+
+module _ (c : Channel) (s : Station) (store : List ℕ) (a : Accepted) (desked desks : List ℕ) (same : Alike desked desks (a .desk)) where
+  walked-alike : (es : List Event) (xs : List ℕ) → walkedFrom c s desks store a es xs ≡ walkedFrom c s desked store a es xs
+  walked-alike es xs =
+      ap (λ (ds : List ℕ). record {
+        station = walkedFrom c s desks store a es xs .station;
+        desks = ds;
+        store = walkedFrom c s desks store a es xs .store;
+        events = walkedFrom c s desks store a es xs .events;
+      })
+      (sym (same (split xs .left) (omega (arith, unfinished-few (split-left xs)))))
+
+  -- "After a drop .. reading begins at the pointer": event k, then what is read from there
+  pub tells-dropped : (k : ℕ) {q : Reading} (zone : List ℕ) → q ≡ atPointer (bare k ∷ []) zone (a .pointer) → length zone ≡ 884
+      → {from : ℕ} → from ≡ startAt (pointerMeaning (a .pointer)) → {n : ℕ} {list₀ list : List ℕ} → n ≡ 0 + 1
+      → list ≡ put list₀ (3 * 0) (k ∷ 0 ∷ 0 ∷ [])
+      → {r : Done} {desks₁ store₁ list₁ : List ℕ} → Tells (walkedFrom c s desked store a [] (drop from zone)) n list r desks₁ store₁ list₁
+      → Tells (walkedFrom c s desks store a (q .events) (q .octets)) 0 list₀ r desks₁ store₁ list₁
+  unfolding flat flatMap
+  tells-dropped k zone e size {from} f m l t =
+      let xs = drop from zone in
+      let w : walkedFrom c s desks store a (bare k ∷ []) xs ≡ led (bare k ∷ []) (walkedFrom c s desked store a [] xs) =
+      walked-alike (bare k ∷ []) xs ∙ from-led c s desked store a (bare k ∷ []) xs in
+      let at-start = from-start (pointerMeaning (a .pointer)) zone size ∙ ap (λ (i : ℕ). drop i zone) (sym f) in
+      tells-as
+      (ap (λ (v : Reading). walkedFrom c s desks store a (v .events) (v .octets)) e ∙ ap (walkedFrom c s desks store a (bare k ∷ [])) at-start ∙ w)
+      (tells-led (bare k ∷ []) (rw (m, l) at t))
+
+-- the fate of a held packet
+module _ (p held : ℕ) where
+  fate-good : (h : Packet) → fateOf (Good h) held p ≡ (if agrees (sizeOf h - held) p then CarriedOn (sizeOf h) else Dropped 2)
+  unfolding fateOf
+  fate-good h = refl
+
+  fate-bad : fateOf Bad held p ≡ Dropped 3
+  unfolding fateOf
+  fate-bad = refl
+
+  pub fate-short : {l : Look} → l ≡ Short → Dropped 3 ≡ fateOf l held p
+  unfolding fateOf
+  fate-short e = sym (ap (λ (k : Look). fateOf k held p) e)
+
+  pub fate-spoilt : {l : Look} → l ≡ Bad → Dropped 3 ≡ fateOf l held p
+  unfolding fateOf
+  fate-spoilt e = sym (ap (λ (k : Look). fateOf k held p) e)
+
+  module _ {l : Look} {h : Packet} (e : l ≡ Good h) {size : ℕ} (n : size ≡ sizeOf h) {b : Bool} (f : b ≡ agrees (size - held) p) where
+    pub fate-agrees : b ≡ true → CarriedOn size ≡ fateOf l held p
+    unfolding fateOf
+    fate-agrees g = rw (e, ← n, ← f, g)
+
+    pub fate-differs : b ≡ false → Dropped 2 ≡ fateOf l held p
+    unfolding fateOf
+    fate-differs g = rw (e, ← n, ← f, g)
+
+module _ (xs zone : List ℕ) (p : ℕ) (some : 0 < length xs) (long : 6 ≤ length zone) where
+  few-not : lookOf (xs ++ zone) ≡ Short → ⊥
+  few-not e = omega (arith, look-tells (xs ++ zone) e, length-append xs zone)
+
+  pub fate-dropped : {k : ℕ} → fateOf (lookOf (xs ++ zone)) (length xs) p ≡ Dropped k → reading xs zone p ≡ atPointer (bare k ∷ []) zone p
+  fate-dropped {k} f = by (lookOf (xs ++ zone)) refl
+    where
+      good : (h : Packet) → lookOf (xs ++ zone) ≡ Good h → (b : Bool) → agrees (sizeOf h - length xs) p ≡ b
+          → reading xs zone p ≡ atPointer (bare k ∷ []) zone p
+      good h e true g =
+          let q : CarriedOn (sizeOf h) ≡ Dropped k = sym (rw g at (fate-good p (length xs) h)) ∙ sym (ap (λ (l : Look). fateOf l (length xs) p) e) ∙ f in
+          let z : _≡_ {A = ℕ} 0 1 = cc in
+          absurd (omega arith)
+      good h e false g =
+          let q : Dropped 2 ≡ Dropped k = sym (rw g at (fate-good p (length xs) h)) ∙ sym (ap (λ (l : Look). fateOf l (length xs) p) e) ∙ f in
+          let z : 2 ≡ k = cc in
+          reading-dropped xs zone p some e g ∙ ap (λ (i : ℕ). atPointer (bare i ∷ []) zone p) z
+
+      by : (l : Look) → lookOf (xs ++ zone) ≡ l → reading xs zone p ≡ atPointer (bare k ∷ []) zone p
+      by Short e = absurd (few-not e)
+      by Bad e =
+          let q : Dropped 3 ≡ Dropped k = sym (fate-bad p (length xs)) ∙ sym (ap (λ (l : Look). fateOf l (length xs) p) e) ∙ f in
+          let z : 3 ≡ k = cc in
+          reading-bad xs zone p some e ∙ ap (λ (i : ℕ). atPointer (bare i ∷ []) zone p) z
+      by (Good h) e = good h e (agrees (sizeOf h - length xs) p) refl
+
+-- a packet of so many octets goes on from the held ones into the zone
+pub record Onward (xs zone : List ℕ) (p size : ℕ) : Type 0 where
+  pub header : Packet
+  pub looks : lookOf (xs ++ zone) ≡ Good header
+  pub sized : size ≡ sizeOf header
+  pub reads : reading xs zone p ≡ onward xs zone
+
+module _ (xs zone : List ℕ) (p : ℕ) (some : 0 < length xs) (long : 6 ≤ length zone) where
+  pub fate-onward : {size : ℕ} → fateOf (lookOf (xs ++ zone)) (length xs) p ≡ CarriedOn size → Onward xs zone p size
+  fate-onward {size} f = by (lookOf (xs ++ zone)) refl
+    where
+      good : (h : Packet) → lookOf (xs ++ zone) ≡ Good h → (b : Bool) → agrees (sizeOf h - length xs) p ≡ b → Onward xs zone p size
+      good h e true g =
+          let q : CarriedOn (sizeOf h) ≡ CarriedOn size = sym (rw g at (fate-good p (length xs) h)) ∙ sym (ap (λ (l : Look). fateOf l (length xs) p) e) ∙ f in
+          record { header = h; looks = e; sized = cc; reads = reading-on xs zone p some e g }
+      good h e false g =
+          let q : Dropped 2 ≡ CarriedOn size = sym (rw g at (fate-good p (length xs) h)) ∙ sym (ap (λ (l : Look). fateOf l (length xs) p) e) ∙ f in
+          let z : _≡_ {A = ℕ} 0 1 = cc in
+          absurd (omega arith)
+
+      by : (l : Look) → lookOf (xs ++ zone) ≡ l → Onward xs zone p size
+      by Short e = absurd (few-not xs zone p some long e)
+      by Bad e =
+          let q : Dropped 3 ≡ CarriedOn size = sym (fate-bad p (length xs)) ∙ sym (ap (λ (l : Look). fateOf l (length xs) p) e) ∙ f in
+          let z : _≡_ {A = ℕ} 0 1 = cc in
+          absurd (omega arith)
+      by (Good h) e = good h e (agrees (sizeOf h - length xs) p) refl
+
+-- the same station, with as many octets on its desks and numbers in its list
+module _ {c : Channel} {s : Station} {a : Accepted} {zone desks store list : List ℕ} (L : Lent c s a zone desks store list) {desked listed : List ℕ}
+    (d : length desked ≡ length desks) where
+  pub lent-told : (n : ℕ) (es : List ℕ) → listed ≡ put list n es → Lent c s a zone desked store listed
+  lent-told n es l =
+      record {
+        sound = L .sound;
+        watched = L .watched;
+        desk = L .desk;
+        frame = L .frame;
+        desked = d ∙ L .desked;
+        stored = L .stored;
+        listed = omega (arith, L .listed, ap length l, length-put list n es);
+      }
+
+  -- and after a packet was judged
+  pub lent-judged : Sized s → (p : List ℕ) {r : Told} {stored : List ℕ} {n : ℕ} → TellsJudged (judged c s store p) n list r stored listed
+      → Lent c (r .station) a zone desked stored listed
+  lent-judged z p {n} u =
+      let k = judged-stays c s store p in
+      rw (u .station, u .wrote)
+      record {
+        sound = judged-sound c s store p z (L .sound) (L .watched);
+        watched = stays-watched k (L .watched);
+        desk = rw (k .channels) (L .desk);
+        frame = L .frame;
+        desked = d ∙ L .desked ∙ ap (λ (i : ℕ). 8198 * i) (sym (k .channels));
+        stored = judged-store c s store p ∙ L .stored ∙ ap (λ (i : ℕ). 8190 * i) (sym (k .blocks));
+        listed = omega (arith, L .listed, ap length (u .listed), length-put list (3 * n) (flat (judged c s store p .events)));
+      }
+
+-- the held octets on their desk, and as many of the zone's behind them as fit
+module _ {c : Channel} {s : Station} {a : Accepted} {zone desks store list : List ℕ} (L : Lent c s a zone desks store list) (D : DesksSound s desks)
+    (held : ℕ) (is : (held ≡ deskAt s (a .desk) .held) × (0 < held)) where
+  pub held-few : held ≤ 8197
+  held-few = omega (arith, is .0, L .sound .desks (a .desk) (L .desk) .few)
+
+  long : length (heldAt s desks (a .desk)) ≡ held
+  long = held-length (L .sound) desks (L .desked) (a .desk) (L .desk) ∙ sym (is .0)
+
+  module _ {more : ℕ} (m : more ≡ min 884 (8198 - held)) where
+    pub more-few : more ≤ 884
+    more-few = omega arith
+
+    pub more-fits : held + more ≤ 8198
+    more-fits = omega (arith, held-few)
+
+    pub more-taken : length (take more zone) ≡ more
+    more-taken = length-take-le more zone (omega (arith, more-few, L .frame))
+
+    pub copy-fits : 8198 * a .desk + held + more ≤ length desks
+    copy-fits = omega (arith, more-fits, desk-fits L)
+
+    module _ {written : List ℕ} (w : written ≡ put desks (8198 * a .desk + held) (take more zone)) where
+      pub written-length : length written ≡ length desks
+      written-length = ap length w ∙ length-put desks (8198 * a .desk + held) (take more zone)
+
+      pub alike : Alike written desks (a .desk)
+      alike left l =
+          ap (λ (ds : List ℕ). withHeld ds (a .desk) left) w
+          ∙ over-held desks (a .desk) held (take more zone) (omega (arith, more-fits, more-taken)) left l
+
+      on-desk : (r : ℕ) → r ≤ more → part (8198 * a .desk) (held + r) written ≡ heldAt s desks (a .desk) ++ take r zone
+      on-desk r l =
+          ap (part (8198 * a .desk) (held + r)) w
+          ∙ carried-cut desks zone (8198 * a .desk) held more r copy-fits (omega (arith, more-few, L .frame)) l
+          ∙ ap (λ (n : ℕ). part (8198 * a .desk) n desks ++ take r zone) (is .0)
+
+      look-desk : lookOf (take (8198 * a .desk + held + more - 8198 * a .desk) (drop (8198 * a .desk) written)) ≡ lookOf (heldAt s desks (a .desk) ++ zone)
+      look-desk =
+          let k : 8198 * a .desk + held + more - 8198 * a .desk ≡ held + more = omega arith in
+          ap (λ (n : ℕ). lookOf (part (8198 * a .desk) n written)) k ∙ ap lookOf (on-desk more (omega arith))
+          ∙ look-carried (heldAt s desks (a .desk)) zone more (omega (arith, long, held-few)) (omega (arith, more-few, L .frame))
+
+      pub lacks : (h : Packet) → lookOf (take (8198 * a .desk + held + more - 8198 * a .desk) (drop (8198 * a .desk) written)) ≡ Good h → held ≤ sizeOf h
+      lacks h e =
+          omega (
+            arith,
+            carried-lacks (heldAt s desks (a .desk)) zone (sym look-desk ∙ e) (desk-unfinished (L .sound) desks (L .desked) (a .desk) (L .desk) D),
+            long,
+          )
+
+      module _ {f : Fate} (e : f ≡ fateOf (lookOf (take (8198 * a .desk + held + more - 8198 * a .desk) (drop (8198 * a .desk) written))) held (a .pointer)) where
+        fate-here : f ≡ fateOf (lookOf (heldAt s desks (a .desk) ++ zone)) (length (heldAt s desks (a .desk))) (a .pointer)
+        fate-here = e ∙ ap₂ (λ (l : Look) (n : ℕ). fateOf l n (a .pointer)) look-desk (sym long)
+
+        pub drops : {k : ℕ} → f ≡ Dropped k → reading (heldAt s desks (a .desk)) zone (a .pointer) ≡ atPointer (bare k ∷ []) zone (a .pointer)
+        drops g =
+            fate-dropped (heldAt s desks (a .desk)) zone (a .pointer) (omega (arith, long, is .1)) (omega (arith, L .frame)) (sym fate-here ∙ g)
+
+        pub goes-on : {size : ℕ} → f ≡ CarriedOn size → Onward (heldAt s desks (a .desk)) zone (a .pointer) size
+        goes-on g =
+            fate-onward (heldAt s desks (a .desk)) zone (a .pointer) (omega (arith, long, is .1)) (omega (arith, L .frame)) (sym fate-here ∙ g)
+
+      module _ {size : ℕ} (O : Onward (heldAt s desks (a .desk)) zone (a .pointer) size) where
+        pub lacking : held < size
+        lacking =
+            omega (
+              arith,
+              carried-lacks (heldAt s desks (a .desk)) zone (O .looks) (desk-unfinished (L .sound) desks (L .desked) (a .desk) (L .desk) D),
+              long,
+              O .sized,
+            )
+
+        pub size-most : size ≤ 8198
+        size-most = omega (arith, look-good (heldAt s desks (a .desk) ++ zone) (O .header) (O .looks) .largest, O .sized)
+
+        lacked : length (heldAt s desks (a .desk)) + (size - held) ≡ sizeOf (O .header)
+        lacked = omega (arith, long, lacking, O .sized)
+
+        packet-desk : size - held ≤ 884
+            → take (8198 * a .desk + size - 8198 * a .desk) (drop (8198 * a .desk) written) ≡ heldAt s desks (a .desk) ++ take (size - held) zone
+        packet-desk l =
+            let k : 8198 * a .desk + size - 8198 * a .desk ≡ held + (size - held) = omega (arith, lacking) in
+            ap (λ (n : ℕ). part (8198 * a .desk) n written) k ∙ on-desk (size - held) (omega (arith, size-most, lacking))
+
+        pub whole-desk : size - held ≤ 884 → Whole (take (8198 * a .desk + size - 8198 * a .desk) (drop (8198 * a .desk) written))
+        whole-desk l =
+            rw (packet-desk l)
+            (carried-packet (heldAt s desks (a .desk)) zone (O .looks) (size - held) lacked (omega (arith, L .frame)))
+
+        -- "What is left unfinished at the zone's end is held."
+        pub tells-longer : 884 < size - held → {t : Station} → t ≡ withDesk s (a .desk) (deskAfter a (held + 884))
+            → Tells (carried c s desks store zone a) 0 list (record { station = t; events = 0 }) written store list
+        unfolding flat flatMap
+        tells-longer l t =
+            let xs = heldAt s desks (a .desk) in
+            let k : held + 884 ≡ length (xs ++ zone) = omega (arith, length-append xs zone, long, L .frame) in
+            let n : more ≡ 884 = omega (arith, size-most, lacking) in
+            let all : take more zone ≡ zone = take-all more zone (omega (arith, L .frame)) in
+            tells-as
+            (ap (λ (v : Reading). walkedFrom c s desks store a (v .events) (v .octets)) (O .reads)
+            ∙ from-longer c s desks store a [] xs zone (O .looks) (size - held) lacked (omega (arith, L .frame)))
+            (record {
+              station = t ∙ ap (λ (i : ℕ). withDesk s (a .desk) (deskAfter a i)) k;
+              events = refl;
+              desked =
+                  w ∙ ap (put desks (8198 * a .desk + held)) all
+                  ∙ more-held desks (a .desk) held zone (omega (arith, size-most, L .frame)) (rw (is .0) (D .octets (a .desk) (L .desk))) (desk-fits L)
+                  ∙ ap (λ (i : ℕ). withHeld desks (a .desk) (part (8198 * a .desk) i desks ++ zone)) (is .0);
+              stored = refl;
+              listed = sym (put-nil list (3 * 0));
+            })
+
+        pub tells-onward : size - held ≤ 884 → {r : Told} {stored listed : List ℕ}
+            → TellsJudged (judged c s store (take (8198 * a .desk + size - 8198 * a .desk) (drop (8198 * a .desk) written))) 0 list r stored listed
+            → {d : Done} {desks₁ store₁ list₁ : List ℕ}
+            → Tells (walkedFrom c (r .station) written stored a [] (drop (size - held) zone)) (r .events) listed d desks₁ store₁ list₁
+            → Tells (carried c s desks store zone a) 0 list d desks₁ store₁ list₁
+        tells-onward l u t =
+            let xs = heldAt s desks (a .desk) in
+            let p = take (8198 * a .desk + size - 8198 * a .desk) (drop (8198 * a .desk) written) in
+            let j = judged c s store p in
+            let rest = drop (size - held) zone in
+            tells-as
+            (ap (λ (v : Reading). walkedFrom c s desks store a (v .events) (v .octets)) (O .reads)
+            ∙ from-carried c s desks store a [] xs zone (O .looks) (size - held) lacked (omega (arith, L .frame))
+            ∙ ap (λ (q : List ℕ). walkedFrom c (judged c s store q .station) desks (judged c s store q .store) a (judged c s store q .events) rest) (sym (packet-desk l))
+            ∙ walked-alike c (j .station) (j .store) a written desks alike (j .events) rest
+            ∙ from-led c (j .station) written (j .store) a (j .events) rest)
+            (tells-led (j .events) (rw (u .station, u .events, u .wrote, u .listed) at t))
+
+        -- what the rest of the zone is walked with
+        module _ {r : Told} {stored listed : List ℕ}
+            (u : TellsJudged (judged c s store (take (8198 * a .desk + size - 8198 * a .desk) (drop (8198 * a .desk) written))) 0 list r stored listed) where
+          pub rest-lent : Sized s → Lent c (r .station) a zone written stored listed
+          rest-lent z = lent-judged L written-length z (take (8198 * a .desk + size - 8198 * a .desk) (drop (8198 * a .desk) written)) u
+
+          pub rest-few : 3 * r .events ≤ size - held + 8
+          rest-few =
+              omega (
+                arith,
+                lacking,
+                u .events,
+                three c s store (take (8198 * a .desk + size - 8198 * a .desk) (drop (8198 * a .desk) written)),
+              )
+
+-- a frame that is not refused, by its cases
+module _ (c : Channel) (s : Station) (desks store zone : List ℕ) (a : Accepted) {g : Bool} (e : g ≡ gap (deskAt s (a .desk)) (a .counter)) where
+  -- "event 1, and the held octets are dropped"
+  pub tells-gap : g ≡ true → length zone ≡ 884 → {from : ℕ} → from ≡ startAt (pointerMeaning (a .pointer)) → {n : ℕ} {list₀ list : List ℕ}
+      → n ≡ 0 + 1
+      → list ≡ put list₀ (3 * 0) (1 ∷ 0 ∷ 0 ∷ [])
+      → {r : Done} {desks₁ store₁ list₁ : List ℕ} → Tells (walkedFrom c s desks store a [] (drop from zone)) n list r desks₁ store₁ list₁
+      → Tells (walked c s desks store zone a) 0 list₀ r desks₁ store₁ list₁
+  tells-gap f size b n l t =
+      tells-as (walked-from c s desks store a zone)
+      (tells-dropped c s store a desks desks (λ left k. refl) 1 zone (reading-gap s desks zone a (sym e ∙ f)) size b n l t)
+
+  module _ (f : g ≡ false) {n : ℕ} {list₀ : List ℕ} {r : Done} {desks₁ store₁ list₁ : List ℕ} where
+    pub tells-seamless : Tells (carried c s desks store zone a) n list₀ r desks₁ store₁ list₁
+        → Tells (walked c s desks store zone a) n list₀ r desks₁ store₁ list₁
+    tells-seamless t =
+        tells-as
+        (walked-from c s desks store a zone
+        ∙ ap (λ (v : Reading). walkedFrom c s desks store a (v .events) (v .octets)) (reading-seamless s desks zone a (sym e ∙ f)))
+        t
+
+    -- "with nothing held, reading begins at the pointer"
+    pub tells-fresh : deskAt s (a .desk) .held ≡ 0 → length zone ≡ 884 → {from : ℕ} → from ≡ startAt (pointerMeaning (a .pointer))
+        → Tells (walkedFrom c s desks store a [] (drop from zone)) n list₀ r desks₁ store₁ list₁
+        → Tells (walked c s desks store zone a) n list₀ r desks₁ store₁ list₁
+    tells-fresh none size b t =
+        let nothing : heldAt s desks (a .desk) ≡ [] = ap (λ (i : ℕ). part (8198 * a .desk) i desks) none in
+        let reads : reading (heldAt s desks (a .desk)) zone (a .pointer) ≡ atPointer [] zone (a .pointer) =
+        ap (λ (xs : List ℕ). reading xs zone (a .pointer)) nothing ∙ reading-none zone (a .pointer) in
+        let start = from-start (pointerMeaning (a .pointer)) zone size ∙ ap (λ (i : ℕ). drop i zone) (sym b) in
+        tells-seamless
+        (tells-as
+        (ap (λ (v : Reading). walkedFrom c s desks store a (v .events) (v .octets)) reads ∙ ap (walkedFrom c s desks store a []) start)
+        t)

@@ -1,0 +1,57 @@
+-- `zone::fate_of` is the definition `fateOf` of what stands at the packet's start. Assumes nothing.
+use mathlib.Core.Path.{sym, _∙_}
+use mathlib.Core.Logic.{⊎-elim}
+use native.Mathlib.Omega.{arith}
+use borrow.Author.Needs.{needs}
+use Rattle.packet.proofs.Tags.{look-told}
+use Rattle.zone.proofs.Carry.{fate-short, fate-spoilt, fate-agrees, fate-differs}
+use Rattle.zone.proofs.fate_of.Statement.{statement}
+use Rattle.zone.proofs.fate_of.Tie as tie
+
+look-at-requires : tie.Need-look-at-requires
+look-at-requires c κs = search needs
+
+enum-known-look : tie.Need-enum-known-look
+enum-known-look c = search needs
+
+returns : tie.Need-returns
+returns c =
+    let e = sym (c .before .look-at .ensures) in
+    ⊎-elim (λ tag. fate-short _ _ (e ∙ look-told _ tag)) (λ tag. fate-spoilt _ _ (e ∙ look-told _ tag)) (c .match .keys2)
+
+size-requires : tie.Need-size-requires
+size-requires c κs = search needs
+
+sub-agrees : tie.Need-sub-agrees
+sub-agrees c =
+    omega (
+      arith,
+      c .before .before .before .before .before .before .pre _ (sym (c .before .before .before .before .look-at .ensures) ∙ c .before .before .look .given .1),
+      c .size .ensures,
+    )
+
+agrees-requires : tie.Need-agrees-requires
+agrees-requires c κs = search needs
+
+returns-2 : tie.Need-returns-2
+returns-2 c =
+    fate-agrees _ _ (sym (c .before .before .before .before .before .before .look-at .ensures) ∙ c .before .before .before .before .look .given .1)
+    (c .before .before .size .ensures) (c .before .agrees .ensures) (c .if1 .taken)
+
+returns-3 : tie.Need-returns-3
+returns-3 c =
+    fate-differs _ _ (sym (c .before .before .before .before .before .before .look-at .ensures) ∙ c .before .before .before .before .look .given .1)
+    (c .before .before .size .ensures) (c .before .agrees .ensures) (c .if1 .left)
+
+pub fate-of-spec : {M : Type 1} → statement M
+fate-of-spec =
+    tie.close
+    (tie.spec
+    look-at-requires
+    enum-known-look
+    returns
+    size-requires
+    sub-agrees
+    agrees-requires
+    returns-2
+    returns-3)

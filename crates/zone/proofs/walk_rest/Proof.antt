@@ -1,0 +1,104 @@
+-- `zone::walk_rest` holds what the walk leaves, and tells a bad header. Assumes nothing.
+use native.Mathlib.Omega.{arith}
+use borrow.Author.Needs.{needs}
+use Rattle.zone.proofs.Ends.{desk-low, going, room-left, ends-bad, ends-left}
+use Rattle.zone.proofs.walk_rest.Statement.{statement}
+use Rattle.zone.proofs.walk_rest.Tie as tie
+
+mul-base : tie.Need-mul-base
+mul-base c = search needs
+
+walk-requires : tie.Need-walk-requires
+walk-requires c κs =
+    search needs
+
+blank-requires : tie.Need-blank-requires
+blank-requires c κs = search needs
+
+emit-requires : tie.Need-emit-requires
+emit-requires c κs =
+    let w = c .before .before .before .before .before .before .before .before .before .before .before .before in
+    let i = c .before .before .before .before .before .before .before .before .before .before .before .before .before .before .before .before .before .before .before .before in
+    room-left (w .walk .ensures) (i .args .a) (going (i .pre .0) (i .pre .1 .0) (i .pre .1 .1))
+
+with-desk-requires : tie.Need-with-desk-requires
+with-desk-requires c κs =
+    desk-low (c .before .before .before .before .before .before .before .before .before .before .before .before .before .before .before .before .before .before .before .before .before .before .before .pre .0)
+
+same-length : tie.Need-same-length
+same-length c = search needs
+
+same-length-2 : tie.Need-same-length-2
+same-length-2 c = search needs
+
+same-length-3 : tie.Need-same-length-3
+same-length-3 c = search needs
+
+returns : tie.Need-returns
+returns c =
+    let w = c .before .before .before .before .before .before .before .before .before .before .before .before .before .before .before .before in
+    let i = c .before .before .before .before .before .before .before .before .before .before .before .before .before .before .before .before .before .before .before .before .before .before .before .before in
+    ends-bad (w .walk .ensures) (i .args .a) (i .args .desks .now) (c .before .before .before .before .before .if1 .taken) (c .with-desk .ensures) (c .before .before .before .before .before .before .before .before .before .before .blank .ensures) (c .before .before .before .emit .ensures .0) (c .before .before .before .emit .ensures .1)
+
+sub-left : tie.Need-sub-left
+sub-left c = search needs
+
+sub-copy : tie.Need-sub-copy
+sub-copy c = search needs
+
+part-copy-start : tie.Need-part-copy-start
+part-copy-start c = search needs
+
+part-copy-end : tie.Need-part-copy-end
+part-copy-end c = search needs
+
+copy-requires : tie.Need-copy-requires
+copy-requires c κs = search needs
+
+cast-with-desk : tie.Need-cast-with-desk
+cast-with-desk c =
+    omega (arith, c .before .before .before .before .before .before .before .before .before .before .before .before .before .before .before .before .before .before .before .before .before .before .before .before .pre .0 .frame)
+
+with-desk-requires-2 : tie.Need-with-desk-requires-2
+with-desk-requires-2 c κs =
+    desk-low (c .before .before .before .before .before .before .before .before .before .before .before .before .before .before .before .before .before .before .before .before .before .before .before .before .pre .0)
+
+same-length-4 : tie.Need-same-length-4
+same-length-4 c = search needs
+
+same-length-5 : tie.Need-same-length-5
+same-length-5 c = search needs
+
+same-length-6 : tie.Need-same-length-6
+same-length-6 c = search needs
+
+returns-2 : tie.Need-returns-2
+returns-2 c =
+    let w = c .before .before .before .before .before .before .before .before .before .before .before .before .before .before .before .before .before in
+    let i = c .before .before .before .before .before .before .before .before .before .before .before .before .before .before .before .before .before .before .before .before .before .before .before .before .before in
+    ends-left (w .walk .ensures) (i .args .a) (i .args .desks .now) (c .before .before .before .before .before .before .if1 .left) (i .pre .0 .frame) (c .with-desk2 .ensures) (c .before .before .before .before .before .before .before .before .before .before .before .blank .ensures) (c .before .before .before .copy .ensures)
+
+pub walk-rest-spec : {M : Type 1} → statement M
+walk-rest-spec =
+    tie.close
+    (tie.spec
+    mul-base
+    walk-requires
+    blank-requires
+    emit-requires
+    with-desk-requires
+    same-length
+    same-length-2
+    same-length-3
+    returns
+    sub-left
+    sub-copy
+    part-copy-start
+    part-copy-end
+    copy-requires
+    cast-with-desk
+    with-desk-requires-2
+    same-length-4
+    same-length-5
+    same-length-6
+    returns-2)
