@@ -1,3 +1,2 @@
--- Laws of the text of numbers, and of a frame call.
-pub mod Places
+-- Laws of a frame call that the program leans on.
 pub mod Steps

@@ -21,6 +21,7 @@ use Rattle.state.proofs.Exactly.{sound-yes, desks-yes}
 use Rattle.zone.proofs.Walks.{walked-few, desk-unfinished}
 use Rattle.station.specs.Frame.{FrameOutcome, frameGives, lentRight, channelAt, examinedFrame, framed}
 use Rattle.receive.specs.Step.{WentOn}
+use Rattle.receive.specs.Told.{frameText, outcomeText}
 use Rattle.station.proofs.Frames.{lent-desks, desk-watched}
 
 abbrev Few : FrameOutcome → Type 0
@@ -56,3 +57,8 @@ pub went-on : {n k : ℕ} {s₁ : Station} {desks₁ store₁ list₁ : List ℕ
     → WentOn o s₁ desks₁ store₁
 went-on e =
     (ap (λ (o : FrameOutcome). o .station) e, ap (λ (o : FrameOutcome). o .desks) e, ap (λ (o : FrameOutcome). o .store) e)
+
+-- the text of what the call answered is the text of its outcome
+pub told : {n k : ℕ} {s₁ : Station} {desks₁ store₁ list₁ : List ℕ} {o : FrameOutcome} (index : ℕ) → frameGives n k s₁ desks₁ store₁ list₁ ≡ o
+    → frameText index n k list₁ ≡ outcomeText index o
+told index e = ap (outcomeText index) e

@@ -1,3 +1,3 @@
--- What the program's text looks like, and how its station goes on.
+-- What the program prints, and how its station goes on.
 pub mod Step
-pub mod Text
+pub mod Told

@@ -2,19 +2,18 @@
 // at the end END, frames, octets left over.
 //
 // Owns the memory of a station: spacecraft 1, channels 0 to 3, seven blocks. Promises: the program is safe and ends; its station goes from
-// frame to frame as the station's contract has it; numbers stand in decimal (text.rt). A trailing part of a frame is counted, and no frame.
-mod text;
-
+// frame to frame as the station's contract has it; what it prints of a frame is the text of what the station's contract says comes of it. A trailing part of a frame is counted, and no frame.
 use frame::Frame;
 use libc::STDIN_FILENO;
 use libc::STDOUT_FILENO;
 use state::Station;
-use text::Text;
 ghost use Prim.Native.Nat.{_≤_};
 ghost use mathlib.Core.Path.{_≡_};
 ghost use lib.ListN.{length};
 ghost use Rattle.station.specs.Frame.{framed};
+ghost use Rattle.octets.specs.Buffer.{put};
 ghost use Rattle.receive.specs.Step.{WentOn};
+ghost use Rattle.receive.specs.Told.{frameText, outcomeText, endText};
 
 const SPACECRAFT: u8 = 1;
 
@@ -33,10 +32,11 @@ const LINES: usize = 19565;
 // What happened with a frame: its line, and a line for each event.
 fn tell(index: u64, answer: u8, events: usize, list: &[u16], out: &mut [u8])
     requires { ⌜ (events ≤ 300) × (length (now list) ≡ 900) × (length (now out) ≡ 19565) ⌝ }
+    ensures { λ _. ⌜ now (out .exit) ≡ put (now (out .entry)) 0 (frameText index answer events (now (list .entry))) ⌝ }
 {
-    let head = Text::of(b"F")
-        .numbers(index, answer as u64, events as u64)
-        .line(out, 0);
+    let letter = text::word(b"F", out, 0);
+    let last = text::numbers(index, answer as u64, events as u64, out, letter);
+    let head = text::line_end(out, last);
     let end = text::events(list, events, out, head);
     io::write_all(STDOUT_FILENO, &out[0..end]);
 }
@@ -53,6 +53,7 @@ fn receive(
 ) -> Station
     requires { ⌜ (length (now list) ≡ 900) × (length (now out) ≡ 19565) ⌝ }
     ensures { λ r. ⌜ WentOn (framed s (now (desks .entry)) (now (store .entry)) (now (list .entry)) (now (unit .entry))) r (now (desks .exit)) (now (store .exit)) ⌝ }
+    ensures { λ _. ⌜ now (out .exit) ≡ put (now (out .entry)) 0 (outcomeText index (framed s (now (desks .entry)) (now (store .entry)) (now (list .entry)) (now (unit .entry)))) ⌝ }
 {
     let f = station::take_frame(s, desks, store, list, unit);
     tell(index, f.answer, f.events, list, out);
@@ -63,8 +64,12 @@ fn receive(
 // The end of the input: how many frames there were, and how many octets were left over.
 fn end(frames: u64, left: u64, out: &mut [u8])
     requires { ⌜ length (now out) ≡ 19565 ⌝ }
+    ensures { λ _. ⌜ now (out .exit) ≡ put (now (out .entry)) 0 (endText frames left) ⌝ }
 {
-    let end = Text::of(b"END").number(frames).number(left).line(out, 0);
+    let word = text::word(b"END", out, 0);
+    let second = text::number(frames, out, word);
+    let last = text::number(left, out, second);
+    let end = text::line_end(out, last);
     io::write_all(STDOUT_FILENO, &out[0..end]);
 }
 

@@ -1,4 +1,3 @@
--- Laws of digits read and written.
+-- Laws of digits read.
 pub mod Decoding
 pub mod Questions
-pub mod Places

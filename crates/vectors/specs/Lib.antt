@@ -1,4 +1,3 @@
--- What the functions of the vectors program promise: lines kept, digits read, pieces of text written.
+-- What the functions of the vectors program promise: lines kept, digits read.
 pub mod Digits
 pub mod Question
-pub mod Text

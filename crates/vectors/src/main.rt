@@ -1,10 +1,9 @@
 // Single questions to the leaves of the receiver, one a line, as docs/VECTORS.md has them.
 //
 // Owns the reading of lines of any length from an input of any length. Promises: the program is safe and ends; the octets of a question
-// are those that its digits stand for (digits.rt), and the pieces of an answer are the text of its numbers (text.rt).
+// are those that its digits stand for (digits.rt), and the pieces of an answer are the text of its numbers (the crate text).
 mod answers;
 mod digits;
-mod text;
 
 use libc::STDIN_FILENO;
 use libc::STDOUT_FILENO;
@@ -14,6 +13,9 @@ ghost use Rattle.vectors.specs.Question.{oneMore};
 
 // The octets of the longest question: a letter, a space and 2,048 digits.
 const QUESTION: usize = 2050;
+
+// The octets of the longest line of answers: a letter, a space, the digits of 1,024 octets, and the line's end.
+const ANSWER: usize = 2051;
 
 // How many octets of a line there are with one more, which is kept if it can still belong to a question. One more than a question can
 // have stands for every greater number.
@@ -39,10 +41,10 @@ fn end_line(line: &[u8], held: usize)
     if line[0] == b'#' {
         return;
     }
-    let t = answers::answer(line, held).octet(b'\n');
-    let out = t.octets;
-    let n = t.n;
-    io::write_all(STDOUT_FILENO, &out[0..n]);
+    let mut out = [0u8; ANSWER];
+    let last = answers::answer(line, held, &mut out);
+    let end = text::line_end(&mut out, last);
+    io::write_all(STDOUT_FILENO, &out[0..end]);
 }
 
 // One octet of the script. Answers how many octets the line has that is begun then.

@@ -1,8 +1,9 @@
 -- `receive::receive` meets its contract, by that of `take_frame`; there is room for the lines of its events. Assumes nothing.
+use mathlib.Core.Path.{_∙_}
 use borrow.Author.Needs.{needs}
 use Rattle.octets.proofs.Lists.{unmap}
 use Rattle.state.specs.Sound.{Sized}
-use Rattle.receive.proofs.Steps.{few-told, went-on}
+use Rattle.receive.proofs.Steps.{few-told, went-on, told}
 use Rattle.receive.proofs.receive.Statement.{statement}
 use Rattle.receive.proofs.receive.Tie as tie
 
@@ -32,7 +33,9 @@ same-length-4 : tie.Need-same-length-4
 same-length-4 c = search needs
 
 returns : tie.Need-returns
-returns c = went-on (c .before .before .before .before .before .before .before .before .before .before .before .before .take-frame .ensures)
+returns c =
+    let taken = c .before .before .before .before .before .before .before .before .before .before .before .before .take-frame .ensures in
+    (went-on taken, c .before .before .before .tell .ensures ∙ rw (told _ taken))
 
 pub receive-spec : {M : Type 1} → statement M
 receive-spec =

@@ -1,8 +1,8 @@
 -- `vectors::answers::answer` is safe: a question has at most 1,024 octets. Assumes nothing.
-use mathlib.Core.Path.{subst}
 use Prim.Native.Nat.{_≤_}
 use native.Mathlib.Omega.{arith}
 use borrow.Author.Needs.{needs}
+use mathlib.Core.Path.{subst}
 use Rattle.vectors.specs.Question.{countOf}
 use Rattle.vectors.specs.declared.digits.Decoded.{Decoded}
 use Rattle.vectors.proofs.answers.answer.Statement.{statement}
@@ -10,6 +10,9 @@ use Rattle.vectors.proofs.answers.answer.Tie as tie
 
 refusal-requires : tie.Need-refusal-requires
 refusal-requires c κs = search needs
+
+same-length : tie.Need-same-length
+same-length c = search needs
 
 returns : tie.Need-returns
 returns c = search needs
@@ -50,14 +53,20 @@ part-answer-to-end c =
 answer-to-requires : tie.Need-answer-to-requires
 answer-to-requires c κs = search needs
 
+same-length-2 : tie.Need-same-length-2
+same-length-2 c = search needs
+
+returns-2 : tie.Need-returns-2
+returns-2 c = search needs
+
 enum-told : tie.Need-enum-told
 enum-told c = search needs
 
 refusal-requires-2 : tie.Need-refusal-requires-2
 refusal-requires-2 c κs = search needs
 
-returns-2 : tie.Need-returns-2
-returns-2 c = search needs
+same-length-3 : tie.Need-same-length-3
+same-length-3 c = search needs
 
 returns-3 : tie.Need-returns-3
 returns-3 c = search needs
@@ -67,6 +76,7 @@ answer-spec =
     tie.close
     (tie.spec
     refusal-requires
+    same-length
     returns
     sub-question
     part-question-start
@@ -79,7 +89,9 @@ answer-spec =
     part-answer-to-start
     part-answer-to-end
     answer-to-requires
+    same-length-2
+    returns-2
     enum-told
     refusal-requires-2
-    returns-2
+    same-length-3
     returns-3)

@@ -2,14 +2,21 @@
 use mathlib.Core.Path.{_≡_}
 use Prim.Native.Nat.{_+_, _-_, _*_, _≤_}
 use borrow.Author.Needs.{needs}
+use lib.ListN.{length}
 use Rattle.vectors.proofs.answers.noise_octets.Statement.{statement}
 use Rattle.vectors.proofs.answers.noise_octets.Tie as tie
 
 abbrev Inv-loop : tie.InvT-loop
-Inv-loop from number t₀ i₀ t i = (i ≤ number) × (t .n ≡ 2 + 2 * i)
+Inv-loop from number out₀ end₀ i₀ out end i = (i ≤ number) × (end ≡ 2 + 2 * i) × (length out ≡ 2051)
 
 abbrev μ-loop : tie.MeasureT-loop
-μ-loop from number t₀ i₀ t i = number - i
+μ-loop from number out₀ end₀ i₀ out end i = number - i
+
+slice-aggregate-word : tie.Need-slice-aggregate-word Inv-loop μ-loop
+slice-aggregate-word c = search needs
+
+word-requires : tie.Need-word-requires Inv-loop μ-loop
+word-requires c κs = search needs
 
 loop-holds : tie.Need-loop-holds Inv-loop μ-loop
 loop-holds c = search needs
@@ -35,6 +42,9 @@ loop-less c = search needs
 loop-again : tie.Need-loop-again Inv-loop μ-loop
 loop-again c = search needs
 
+same-length : tie.Need-same-length Inv-loop μ-loop
+same-length c = search needs
+
 returns : tie.Need-returns Inv-loop μ-loop
 returns c = search needs
 
@@ -44,6 +54,8 @@ noise-octets-spec =
     (tie.spec
     Inv-loop
     μ-loop
+    slice-aggregate-word
+    word-requires
     loop-holds
     add-noise-at
     noise-at-requires
@@ -52,4 +64,5 @@ noise-octets-spec =
     add-i
     loop-less
     loop-again
+    same-length
     returns)

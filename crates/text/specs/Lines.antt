@@ -1,0 +1,22 @@
+-- Lines: a word, numbers behind it, and the line's end. Assumes nothing.
+use mathlib.Core.List.{List, [], _∷_, _++_}
+use Prim.Native.Nat.{ℕ, zero, suc}
+use lib.ListN.{getD, drop}
+use Rattle.text.specs.Pieces.{spaced}
+
+-- three numbers, each behind a space
+abbrev pub spacedThree : ℕ → ℕ → ℕ → List ℕ
+spacedThree a b c = spaced a ++ spaced b ++ spaced c
+
+-- "one newline after each line"
+abbrev pub newline : List ℕ
+newline = 0x0A ∷ []
+
+-- "E kind application slot"
+abbrev pub eventLine : ℕ → ℕ → ℕ → List ℕ
+eventLine kind application slot = 0x45 ∷ [] ++ spacedThree kind application slot ++ newline
+
+-- the lines of the first n events of a list that has three numbers for each
+unfoldable pub eventLines : ℕ → List ℕ → List ℕ
+eventLines zero list = []
+eventLines (suc n) list = eventLine (getD list 0 0) (getD list 1 0) (getD list 2 0) ++ eventLines n (drop 3 list)
