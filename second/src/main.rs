@@ -1,25 +1,58 @@
+use std::ffi::OsString;
 use std::io::{self, BufWriter, Read, Write};
 use std::process::ExitCode;
 
-use second::{make, program, trial, vectors};
+use second::{cases, demo, headers, make, program, random, stream, trial, vectors};
 
-const USAGE: &str = "usage: second vectors|trial|receive < input, or: second example";
+const USAGE: &str = "usage: second vectors|trial|receive < input
+       second example|headers|cases|page|demo
+       second case NAME
+       second random SEED COMMANDS
+       second stream SEED FRAMES";
 
 fn main() -> ExitCode {
-    let word = std::env::args_os().nth(1).unwrap_or_default();
+    let words: Vec<OsString> = std::env::args_os().skip(1).collect();
+    let words: Vec<&str> = words.iter().filter_map(|word| word.to_str()).collect();
     let mut out = BufWriter::new(io::stdout().lock());
-    match word.to_str() {
-        Some("vectors") => vectors::run(&whole_input(), &mut out),
-        Some("trial") => trial::run(&whole_input(), &mut out),
-        Some("receive") => program::run(&mut io::stdin().lock(), &mut out),
-        Some("example") => write_example(&mut out),
-        _ => {
-            let _ = writeln!(io::stderr(), "{USAGE}");
-            return ExitCode::from(2);
-        }
+    if !carry_out(&words, &mut out) {
+        let _ = writeln!(io::stderr(), "{USAGE}");
+        return ExitCode::from(2);
     }
     let _ = out.flush();
     ExitCode::SUCCESS
+}
+
+/// Carries out a sub-command; false if the words are none.
+fn carry_out(words: &[&str], out: &mut dyn Write) -> bool {
+    match words {
+        ["vectors"] => vectors::run(&whole_input(), out),
+        ["trial"] => trial::run(&whole_input(), out),
+        ["receive"] => program::run(&mut io::stdin().lock(), out),
+        ["example"] => write_example(out),
+        ["headers"] => headers::run(out),
+        ["cases"] => cases::write_names(out),
+        ["demo"] => demo::run(out),
+        ["page"] => cases::write_page(out),
+        ["case", name] => return cases::write_case(name, out),
+        ["random", seed, commands] => return with_numbers(seed, commands, random::run, out),
+        ["stream", seed, frames] => return with_numbers(seed, frames, stream::run, out),
+        _ => return false,
+    }
+    true
+}
+
+/// A sub-command with a seed and a size; false if they are no numbers.
+fn with_numbers(
+    seed: &str,
+    size: &str,
+    run: fn(u64, u64, &mut dyn Write),
+    out: &mut dyn Write,
+) -> bool {
+    match (seed.parse(), size.parse()) {
+        (Ok(seed), Ok(size)) => run(seed, size, out),
+        _ => return false,
+    }
+    true
 }
 
 fn whole_input() -> Vec<u8> {

@@ -65,7 +65,7 @@ fn next(script: &[u8]) -> Option<(Command, &[u8], &[u8])> {
 
 /// Carries out a script. "The last line is `END n m`".
 pub fn run(script: &[u8], out: &mut dyn Write) {
-    let mut trial = Trial::new();
+    let mut trial = Trial::default();
     let mut left = script;
     let mut carried_out = 0u64;
     while let Some((command, payload, behind)) = next(left) {
@@ -77,16 +77,16 @@ pub fn run(script: &[u8], out: &mut dyn Write) {
 }
 
 /// The memory of a trial and its state, all zero at the start.
-struct Trial {
+pub struct Trial {
     desks: Vec<u8>,
     store: Vec<u8>,
     desks_lent: usize,
     store_lent: usize,
-    state: State,
+    pub state: State,
 }
 
-impl Trial {
-    fn new() -> Trial {
+impl Default for Trial {
+    fn default() -> Trial {
         Trial {
             desks: vec![0; DESKS_SIZE],
             store: vec![0; STORE_SIZE],
@@ -94,6 +94,33 @@ impl Trial {
             store_lent: 0,
             state: State::all_zero(),
         }
+    }
+}
+
+impl Trial {
+    /// How many octets of desks and store are lent.
+    pub fn lent(&self) -> (usize, usize) {
+        (self.desks_lent, self.store_lent)
+    }
+
+    /// The octet of the desks at a place, 0 past them.
+    pub fn desk_octet(&self, place: usize) -> u8 {
+        self.desks.get(place).copied().unwrap_or(0)
+    }
+
+    /// Carries out commands up to what ends the run, but for `H`, which changes nothing, and
+    /// prints nothing; gives their number.
+    pub fn follow(&mut self, script: &[u8]) -> u64 {
+        let mut left = script;
+        let mut carried_out = 0;
+        while let Some((command, payload, behind)) = next(left) {
+            if command.letter != b'H' {
+                self.carry_out(&command, payload, &mut std::io::sink());
+            }
+            carried_out += 1;
+            left = behind;
+        }
+        carried_out
     }
 
     fn carry_out(&mut self, command: &Command, payload: &[u8], out: &mut dyn Write) {

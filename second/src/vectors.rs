@@ -7,6 +7,7 @@ use crate::crc;
 use crate::frame::{self, Start};
 use crate::noise;
 use crate::packet::{self, Flags, Kind, COUNT_MODULUS};
+use crate::records::{self, Header};
 use crate::transport::{self, Next};
 
 const MOST_DIGITS: usize = 2048;
@@ -42,6 +43,8 @@ fn answer(line: &[u8], noise: &[u8]) -> Option<String> {
         b'L' => length_answer(&octets),
         b'S' => shape_answer(&octets),
         b'W' => counter_answer(&octets),
+        b'H' => Some(header_answer(&octets)),
+        b'R' => record_answer(&octets),
         _ => None,
     }
 }
@@ -163,6 +166,50 @@ fn counter_answer(octets: &[u8]) -> Option<String> {
         "W {}",
         u8::from(frame::counter_follows(last, next))
     ))
+}
+
+fn header_answer(file: &[u8]) -> String {
+    match records::header(file) {
+        Ok(header) => format!("H 0{}", parts_of_header(&header).concat()),
+        Err(refusal) => format!("H {}", refusal as u16),
+    }
+}
+
+/// The primary fields, and those of each record that is present.
+fn parts_of_header(header: &Header) -> Vec<String> {
+    let primary = &header.primary;
+    let (file_type, length, bits) = (primary.file_type, primary.header_length, primary.bits);
+    let image = header.image.as_ref().map(|image| {
+        let (bits, columns, lines) = (image.bits_a_pixel, image.columns, image.lines);
+        format!(" image {bits} {columns} {lines} {}", image.compression)
+    });
+    let navigation = header.navigation.as_ref().map(|navigation| {
+        let [cfac, lfac, coff, loff] = navigation.numbers;
+        let name = hexadecimal(&navigation.name);
+        format!(" navigation {name} {cfac} {lfac} {coff} {loff}")
+    });
+    let time = header.time.as_ref().map(|time| {
+        let (p_field, days) = (time.p_field, time.days);
+        format!(" time {p_field} {days} {}", time.milliseconds)
+    });
+    let segment = header.segment.as_ref().map(|segment| {
+        let (number, total) = (segment.number, segment.total);
+        format!(" segment {number} {total} {}", segment.line)
+    });
+    let parts = [image, navigation, time, segment].into_iter().flatten();
+    [format!(" primary {file_type} {length} {bits}")]
+        .into_iter()
+        .chain(parts)
+        .collect()
+}
+
+/// Two octets n, then the octets of a file.
+fn record_answer(octets: &[u8]) -> Option<String> {
+    let number = Fields::of(octets.get(..2)?).cut(16) as usize;
+    Some(match records::record(&octets[2..], number) {
+        Ok(record) => format!("R 0 {} {} {}", record.kind, record.place, record.length),
+        Err(refusal) => format!("R {}", refusal as u16),
+    })
 }
 
 /// The fields of a question of exactly so many octets.

@@ -1,8 +1,10 @@
 //! The second program held to the values that the papers print, and to the paper's own cases.
 
 mod example;
+mod generators;
 mod leaves;
 mod memory;
+mod records;
 mod refusals;
 mod rubbish;
 mod scripts;

@@ -1,0 +1,119 @@
+//! What the generators make: cases, random scripts and streams, the demo.
+
+use std::collections::BTreeSet;
+
+use second::{cases, demo, program, random, records, stream, trial};
+
+fn tried(script: &[u8]) -> String {
+    let mut out = Vec::new();
+    trial::run(script, &mut out);
+    String::from_utf8(out).expect("ASCII")
+}
+
+fn last_line(out: &str) -> &str {
+    out.lines().last().expect("a last line")
+}
+
+#[test]
+fn cases_have_names_of_their_own_and_reset_what_they_need() {
+    let cases = cases::all();
+    let names: BTreeSet<&str> = cases.iter().map(|case| case.name).collect();
+    assert_eq!(names.len(), cases.len());
+    for case in &cases {
+        let script = case.script();
+        let resets = script.is_empty() || script.starts_with(b"M");
+        assert!(resets, "{}", case.name);
+    }
+}
+
+#[test]
+fn cases_run_to_their_end_but_for_those_that_end_the_run() {
+    let mut all = Vec::new();
+    for case in cases::all() {
+        let out = tried(&case.script());
+        let ends = !last_line(&out).ends_with(" 0");
+        let named = case.name.starts_with("end-") && case.name != "end-nothing";
+        assert_eq!(ends, named, "{}", case.name);
+        if !ends {
+            all.extend(case.script());
+        }
+    }
+    assert!(last_line(&tried(&all)).ends_with(" 0"));
+    assert!(all.len() < 400_000);
+}
+
+fn made(run: fn(u64, u64, &mut dyn std::io::Write), seed: u64, size: u64) -> Vec<u8> {
+    let mut out = Vec::new();
+    run(seed, size, &mut out);
+    out
+}
+
+/// A letter and the number behind it, as `F 0` or `E 10`.
+fn kinds(out: &str) -> impl Iterator<Item = String> + '_ {
+    out.lines().filter_map(|line| {
+        let mut words = line.split(' ');
+        match (words.next()?, words.next()?) {
+            (letter @ ("S" | "F" | "R" | "L" | "D" | "E"), number) => {
+                Some(format!("{letter} {number}"))
+            }
+            _ => None,
+        }
+    })
+}
+
+#[test]
+fn random_scripts_meet_every_answer_and_event() {
+    let mut met = BTreeSet::new();
+    for seed in 1..=16 {
+        let script = made(random::run, seed, 600);
+        assert_eq!(script, made(random::run, seed, 600));
+        met.extend(kinds(&tried(&script)));
+    }
+    let answers = [
+        ("S", vec![0, 1, 10]),
+        ("F", (0..=9).collect()),
+        ("R", vec![0, 1, 2, 11, 12, 14]),
+        ("L", vec![0, 2, 11, 12]),
+        ("D", vec![0, 2, 11, 13]),
+        ("E", (1..=13).collect()),
+    ];
+    for (letter, numbers) in answers {
+        for number in numbers {
+            assert!(
+                met.contains(&format!("{letter} {number}")),
+                "{letter} {number}"
+            );
+        }
+    }
+}
+
+#[test]
+fn random_streams_are_whole_frames_and_a_rest() {
+    for seed in 1..=5 {
+        let frames = made(stream::run, seed, 100);
+        assert_eq!(frames.len() / 1024, 100);
+        let mut out = Vec::new();
+        program::run(&mut &frames[..], &mut out);
+        let out = String::from_utf8(out).expect("ASCII");
+        assert_eq!(last_line(&out), format!("END 100 {}", frames.len() % 1024));
+    }
+}
+
+#[test]
+fn the_demo_shows_what_its_page_says() {
+    let mut out = Vec::new();
+    program::run(&mut &demo::stream().concat()[..], &mut out);
+    let out = String::from_utf8(out).expect("ASCII");
+    let events: Vec<String> = kinds(&out).filter(|kind| kind.starts_with('E')).collect();
+    let wanted = [4, 10, 10, 12, 11, 12, 10, 1, 6, 10, 12, 9];
+    let wanted: Vec<String> = wanted.iter().map(|kind| format!("E {kind}")).collect();
+    assert_eq!(events, wanted);
+}
+
+#[test]
+fn the_files_of_the_demo_have_good_headers() {
+    for (file, last) in [(demo::first_picture(), 128), (demo::bulletin(), 5)] {
+        let records = records::records(&file).expect("a good header");
+        assert_eq!(records.last().map(|record| record.kind), Some(last));
+    }
+}
