@@ -1,16 +1,16 @@
 -- The store's blocks and the files that hold them, on every world that a run reaches; and how a file leaves its slot. Assumes nothing.
 use mathlib.Core.Path.{_≡_, refl, sym, ap, subst, _∙_}
-use mathlib.Core.Bool.{true}
+use mathlib.Core.Bool.{Bool, true, false}
 use mathlib.Core.Logic.{inl, inr, ⊎-elim}
 use mathlib.Core.List.List·Memᴰ.{List·Memᴰ·head}
 use mathlib.Core.List.{List, [], _∷_, _++_, map, List·Memᴰ, List·Memᴰ·not-nil, List·Memᴰ·cases-cons, List·Memᴰ·eq-of-singleton, Memᴰ·append-left, Memᴰ·append-right, append-nil}
-use Prim.Native.Nat.{ℕ}
+use Prim.Native.Nat.{ℕ, _<_}
 use native.Mathlib.Decide.{ℕ-discrete}
 use native.Mathlib.Omega.{arith}
 use borrow.Author.Tests.{eq-eqb}
 use lib.ListN.{length, length-append}
 use Rattle.octets.specs.Buffer.{put}
-use Rattle.octets.proofs.Lists.{if-true}
+use Rattle.octets.proofs.Lists.{if-true, if-false}
 use Rattle.octets.proofs.Decide.{exactly}
 use Rattle.frame.specs.declared.Channel.{Channel}
 use Rattle.frame.specs.declared.Examined.the-variants.{Good}
@@ -18,48 +18,56 @@ use Rattle.frame.specs.Header.{derandomised, zoneOf}
 use Rattle.state.specs.declared.Desk.{Desk}
 use Rattle.state.specs.declared.Station.{Station}
 use Rattle.state.specs.Slots.{slotAt, held}
+use Rattle.state.specs.Sound.{Sized, Sound}
 use Rattle.state.proofs.Places.{stands-taken, stands-once, free-or-stands, places-once-each}
-use Rattle.judge.specs.Event.{Event, at, flat}
-use Rattle.judge.specs.Judge.{Judged}
-use Rattle.judge.specs.Contract.{Whole}
+use Rattle.judge.specs.Event.{Event, at, Among, flat}
+use Rattle.judge.specs.Judge.{Judged, judged}
+use Rattle.judge.specs.Contract.{Watched, Whole}
 use Rattle.judge.proofs.Exact.{abandoned-exactly}
 use Rattle.zone.specs.Zone.{split}
 use Rattle.zone.proofs.Split.{Wholes, split-wholes}
-use Rattle.zone.specs.Walk.{readingOf, judgedAll, badEvents, walked}
+use Rattle.zone.specs.Walk.{deskAfter, readingOf, judgedAll, badEvents, walked}
 use Rattle.station.specs.Frame.{FrameOutcome, channelAt}
 use Rattle.history.specs.Run.{World, Call, answer, run, fresh, SoundWorld}
 use Rattle.history.specs.Run.Call.{frame, read, release, drop}
 use Rattle.history.specs.Things.{Thing, did, didAll, examinedIn, splitIn, framedEvents, things, said}
 use Rattle.history.specs.Things.Thing.{packet, left, gone}
-use Rattle.history.specs.Follow.{follow, Fate}
+use Rattle.history.specs.Follow.{ends, fate, follow, Fate}
 use Rattle.history.specs.Follow.Fate.{Still, Ended}
-use Rattle.history.specs.Demands.{Judgeable, OverCall, EveryRun, Among, Told, BlocksRight, Keeps, Leaves, NeverLost, Moment, Logged, Event6}
-use Rattle.history.specs.Demands.OverCall.{still-there, at-its-end}
-use Rattle.history.specs.Demands.Leaves.{by-event-6, by-release, by-drop}
+use Rattle.history.specs.Calls.{Told}
+use Rattle.history.specs.Store.{BlocksRight, Moment, worldAt, stationAt, storeAt, EveryPacket, Judgeable, Keeps, Leaves, OverCall, NeverLost, OverPacket, KeptOrEnded, Event6, Logged}
+use Rattle.history.specs.Store.OverCall.{still-there, at-its-end}
+use Rattle.history.specs.Store.Leaves.{by-event-6, by-release, by-drop}
+use Rattle.history.specs.Store.OverPacket.{kept, ended}
+use Rattle.history.specs.Demands.{EveryRun}
 use Rattle.history.proofs.Framing.{Taken}
 use Rattle.history.proofs.Sound.{run-sound, fresh-sound}
-use Rattle.history.proofs.Moments.{settled, did-append, did-frame, call-leaves, call-rightly, frame-taken, things-read, things-release, things-drop, things-refused, things-taken, taken-zero, moment-settled, AllRightly, rightly-rest}
+use Rattle.history.proofs.Moments.{Settled, settled, did-append, did-settled, did-frame, call-leaves, call-rightly, frame-taken, things-read, things-release, things-drop, things-refused, things-taken, taken-zero, moment-settled, moment-rightly}
 use Rattle.history.proofs.Turns.{ends-exactly}
-use Rattle.history.proofs.Follows.{Fares, fares}
+use Rattle.history.proofs.Follows.{follow-on, follow-over, Fares, fares}
 
 -- "every store block is free or belongs to one held file at one place. A file needing N blocks holds N"
-pub blocks-right : EveryRun BlocksRight
-blocks-right x cs =
-    let h = run-sound (fresh-sound x) cs in
+station-blocks : {s : Station} → Sized s → Sound s → BlocksRight s
+station-blocks z S =
     record {
       each =
           λ b l.
           ⊎-elim (λ e. inl (record { free = e; nowhere = λ k i t. stands-taken t e }))
           (λ (k, i, low, here, t). inr (record { slot = k; place = i; low = low; held = here; stands = t; only = λ k′ i′ u. stands-once u t }))
-          (free-or-stands (h .sized) (h .sound) b l);
+          (free-or-stands z S b l);
       files =
           λ k l e.
-          record { blocks = h .sound .files k l e .places; places = places-once-each (h .sized) (h .sound) k l e };
+          record { blocks = S .files k l e .places; places = places-once-each z S k l e };
     }
+
+pub blocks-right : EveryRun (λ w. BlocksRight (w .station))
+blocks-right x cs =
+    let h = run-sound (fresh-sound x) cs in
+    station-blocks (h .sized) (h .sound)
 
 -- the events of a frame are in its list
 module _ (w : World) {f list : List ℕ} (t : Taken w f list) where
-  said-taken : said w (frame f list) ≡ framedEvents w f (Good (t .frame))
+  pub said-taken : said w (frame f list) ≡ framedEvents w f (Good (t .frame))
   unfolding said
   said-taken = if-true (framedEvents w f (examinedIn w f)) [] (eq-eqb (answer w (frame f list)) 0 (taken-zero w t)) ∙ ap (framedEvents w f) (t .good)
 
@@ -78,7 +86,7 @@ module _ (w : World) {f list : List ℕ} (t : Taken w f list) where
       let a = t .frame in
       let r = readingOf s (w .desks) (zoneOf (derandomised f)) a in
       let sp = splitIn w f a in
-      let d : Desk = record { held = length (sp .left); seen = true; counter = a .counter } in
+      let d = deskAfter a (length (sp .left)) in
       let j = judgedAll (channelAt s (a .desk)) s (w .store) (sp .packets) in
       let q : didAll s (w .store) (things w (frame f list)) .events ≡ j .events =
       ap (λ (ts : List Thing). didAll s (w .store) ts .events) (things-taken w t)
@@ -161,12 +169,37 @@ never-lost x cs k low e c =
     over-call h k c (follow k (slotAt (w .station) k) (things w c)) refl (fares (things w c) (settled h) (call-rightly h c) k low e)
 
 -- ".. event 6, whose rules never look at room"
-pub event-6-exactly : {s : Station} {store : List ℕ} {c : Channel} {p : List ℕ} → Moment s store c p → Event6 s store c p
-event-6-exactly {s} {store} {c} {p} m k low =
+pub event-6-exactly : EveryPacket Event6
+event-6-exactly m k low =
     let h = moment-settled m in
-    let a = abandoned-exactly c s store p k in
-    let b = exactly (ends-exactly (h .sized) (h .sound) c p k low) in
+    let a = abandoned-exactly (m .channel) (stationAt m) (storeAt m) (m .p) k in
+    let b = exactly (ends-exactly (h .sized) (h .sound) (m .channel) (m .p) k low) in
     (λ n. b .1 (a .0 n), λ e. a .1 (b .0 e))
+
+-- over a packet a file is kept, or ended with event 6
+module _ {s : Station} {store : List ℕ} (h : Settled s store) (c : Channel) (p : List ℕ) (w : Watched s c) (k : ℕ) (low : k < 32)
+    (e : held (slotAt s k) ≡ true) where
+  fared : (f : Fate) → fate k (slotAt s k) (packet c p) ≡ f → Fares s store (packet c p ∷ []) k f
+  unfolding follow
+  fared (Still y) q = subst (Fares s store (packet c p ∷ []) k) (follow-on k (slotAt s k) (packet c p) [] q) (fares (packet c p ∷ []) h (w, tt) k low e)
+  fared Ended q = subst (Fares s store (packet c p ∷ []) k) (follow-over k (slotAt s k) (packet c p) [] q) (fares (packet c p ∷ []) h (w, tt) k low e)
+
+  told-six : Fares s store (packet c p ∷ []) k Ended → Among (at 6 (slotAt s k .application .0) k) (judged c s store p .events)
+  unfolding did didAll
+  told-six (inl m) = subst (Among (at 6 (slotAt s k .application .0) k)) (append-nil (judged c s store p .events)) m
+  told-six (inr m) =
+      let q = List·Memᴰ·eq-of-singleton m in
+      let z : _≡_ {A = ℕ} 0 1 = cc in
+      absurd (omega arith)
+
+  over-packet : (b : Bool) → ends (slotAt s k) c p ≡ b → OverPacket s store c p k
+  unfolding did didAll fate
+  over-packet true q = ended q (told-six (fared Ended (if-true Ended _ q)))
+  over-packet false q = kept q (fared (Still _) (if-false Ended (Still _) q) .1)
+
+pub kept-or-ended : EveryPacket KeptOrEnded
+kept-or-ended m k low e =
+    over-packet (moment-settled m) (m .channel) (m .p) (moment-rightly m .1 .0) k low e (ends (slotAt (stationAt m) k) (m .channel) (m .p)) refl
 
 -- what a packet gives stands in the list of its frame
 did-among : (s : Station) (store : List ℕ) (ts us : List Thing) (t : Thing) {e : Event}
@@ -180,23 +213,22 @@ some-things : (ts us : List Thing) (t : Thing) → [] ≡ ts ++ (t ∷ us) → �
 some-things ts us t q = omega (arith, ap length q, length-append ts (t ∷ us))
 
 -- the frame of a moment is taken, for it brings a packet
-moment-taken : {s : Station} {store : List ℕ} {c : Channel} {p : List ℕ} (m : Moment s store c p)
-    → Taken (run (fresh (m .start)) (m .calls)) (m .octets) (m .list)
-moment-taken {c = c} {p = p} m =
-    let w = run (fresh (m .start)) (m .calls) in
-    let f = frame (m .octets) (m .list) in
+moment-taken : (m : Moment) → Taken (worldAt m) (m .sent) (m .list)
+moment-taken m =
+    let w = worldAt m in
+    let f = frame (m .sent) (m .list) in
     elim (ℕ-discrete (answer w f) 0) [
-      | yes e ↦ frame-taken w (m .octets) (m .list) e
-      | no n ↦ absurd (some-things (m .before) (m .later) (packet c p) (sym (things-refused w f n) ∙ m .brought))
+      | yes e ↦ frame-taken w (m .sent) (m .list) e
+      | no n ↦ absurd (some-things (m .before) (m .later) (packet (m .channel) (m .p)) (sym (things-refused w f n) ∙ m .brought))
     ]
 
-pub logged : {s : Station} {store : List ℕ} {c : Channel} {p : List ℕ} (m : Moment s store c p) → Logged m
+pub logged : (m : Moment) → Logged m
 unfolding did
-logged {c = c} {p = p} m e n =
-    let w = run (fresh (m .start)) (m .calls) in
+logged m e n =
+    let w = worldAt m in
     said-among w (moment-taken m)
     (subst (λ (ts : List Thing). Among e (didAll (w .station) (w .store) ts .events)) (sym (m .brought))
-    (did-among (w .station) (w .store) (m .before) (m .later) (packet c p) (rw (← m .state, ← m .memory) at n)))
+    (did-among (w .station) (w .store) (m .before) (m .later) (packet (m .channel) (m .p)) n))
 
 -- a packet among the things of a frame is one of those that its octets are cut into
 of-wholes : (c c′ : Channel) (p : List ℕ) (ps : List (List ℕ)) (i : ℕ) (d : Desk) → Wholes ps
@@ -215,17 +247,21 @@ of-wholes c c′ p (q ∷ ps) i d w m =
 in-middle : {A : Type 0} (xs : List A) (y : A) (ys : List A) → List·Memᴰ y (xs ++ (y ∷ ys))
 in-middle xs y ys = Memᴰ·append-right xs (List·Memᴰ·head refl)
 
-pub moment-packet : {s : Station} {store : List ℕ} {c : Channel} {p : List ℕ} → Moment s store c p → Judgeable s c p
-moment-packet {c = c} {p = p} m =
-    let w = run (fresh (m .start)) (m .calls) in
-    let f = frame (m .octets) (m .list) in
-    let h = run-sound (fresh-sound (m .start)) (m .calls) in
+pub moment-packet : EveryPacket Judgeable
+unfolding did
+moment-packet m =
+    let w = worldAt m in
     let t = moment-taken m in
-    let xs = readingOf (w .station) (w .desks) (zoneOf (derandomised (m .octets))) (t .frame) .octets in
-    let r = rightly-rest (w .station) (w .store) (m .before) (packet c p ∷ m .later) (subst (AllRightly (w .station) (w .store)) (m .brought) (call-rightly h f)) in
+    let xs = readingOf (w .station) (w .desks) (zoneOf (derandomised (m .sent))) (t .frame) .octets in
+    let q = packet (m .channel) (m .p) in
+    let here = moment-settled m in
+    let watched = moment-rightly m .1 .0 in
+    let then = did-settled q here watched in
     record {
       whole =
-          of-wholes c (channelAt (w .station) (t .frame .desk)) p (split xs .packets) (t .frame .desk) _ (split-wholes xs)
-          (subst (List·Memᴰ (packet c p)) (sym (m .brought) ∙ things-taken w t) (in-middle (m .before) (packet c p) (m .later)));
-      watched = rw (m .state) at (r .1 .0);
+          of-wholes (m .channel) (channelAt (w .station) (t .frame .desk)) (m .p) (split xs .packets) (t .frame .desk) _ (split-wholes xs)
+          (subst (List·Memᴰ q) (sym (m .brought) ∙ things-taken w t) (in-middle (m .before) q (m .later)));
+      watched = watched;
+      before = station-blocks (here .sized) (here .sound);
+      after = station-blocks (then .sized) (then .sound);
     }

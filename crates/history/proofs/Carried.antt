@@ -1,63 +1,48 @@
 -- A file's page is the data of its first packet and of those that went on with it. Assumes nothing.
 use mathlib.Core.Path.{_≡_, refl, sym, ap, ap₂, subst, _∙_}
-use mathlib.Core.Bool.{Bool, true, false, _&&_, _||_, or-true}
+use mathlib.Core.Bool.{Bool, true, _&&_, _||_, or-true}
 use mathlib.Core.Logic.{⊎-elim}
 use mathlib.Core.List.{List, [], _∷_, _++_, map, append-nil, append-assoc, List·Memᴰ·not-nil, List·Memᴰ·cases-cons}
-use Prim.Native.Nat.{ℕ, _+_, _<_}
+use Prim.Native.Nat.{ℕ, _+_, _/_, _%_, _≤_, _<_}
 use native.Mathlib.Omega.{arith}
 use borrow.Author.Tests.{eq-eqb}
 use lib.Dec.{eqb}
-use Rattle.octets.specs.Choice.{if_then_else_}
-use Rattle.octets.proofs.Lists.{if-true, if-false}
+use lib.ListN.{length, getD, List·getD-map}
+use Rattle.octets.proofs.Lists.{part-at, if-true}
 use Rattle.octets.proofs.Decide.{tells}
-use Rattle.frame.specs.declared.Channel.{Channel}
 use Rattle.packet.specs.Header.{packetOf}
+use Rattle.transport.specs.Length.{octetsOfBits}
 use Rattle.state.specs.declared.Slot.{Slot}
 use Rattle.state.specs.declared.Station.{Station}
-use Rattle.state.specs.Slots.{slotAt, held}
+use Rattle.state.specs.Slots.{slotAt, held, complete}
 use Rattle.room.proofs.Keeps.{accepted-held}
-use Rattle.judge.specs.Event.{Event, at}
-use Rattle.judge.specs.Judge.{dataOf, firstSlot, nextSlot}
-use Rattle.history.specs.Run.{World, Call, after, Start, fresh}
+use Rattle.judge.specs.Event.{Among, Event, at}
+use Rattle.judge.specs.Judge.{dataOf, firstSlot}
+use Rattle.history.specs.Run.{World, Call, after, run, Start, fresh}
 use Rattle.history.specs.Things.{Thing, did, didAll, things, allThings}
-use Rattle.history.specs.Things.Thing.{packet, left, gone}
-use Rattle.history.specs.Follow.{ends, adds, Fate, fate, follow, addedBy, added}
-use Rattle.history.specs.Follow.Fate.{Still, Ended}
+use Rattle.history.specs.Things.Thing.{packet}
+use Rattle.history.specs.Follow.{adds, fate, follow, addedBy, added}
+use Rattle.history.specs.Follow.Fate.{Still}
 use Rattle.history.specs.Ledger.{Page, Ledger, told, noted, notedBy, notedAll, ledgerAfter, ledgerRun, noPages}
-use Rattle.history.specs.Demands.{Among, Came, PagesCame}
+use Rattle.history.specs.Files.{Came, packetsOf, carried, PagesCame, NoStrip}
 use Rattle.history.proofs.Sound.{fresh-sound}
 use Rattle.history.proofs.Moments.{Settled, settled, AllRightly, did-settled, all-settled, rightly-rest, call-leaves, run-rightly}
+use Rattle.history.proofs.Order.{never-still, added-on, Next, next-as}
+use Rattle.history.proofs.Order.Next.{none, one}
 use Rattle.history.proofs.Turns.{adds-exactly, Turn, turn}
 use Rattle.history.proofs.Turns.Turn.{stays, goes, leaves, opens}
-use Rattle.history.proofs.Follows.{follow-on, follow-over, opened-slot}
-
-never : {y : Slot} → Ended ≡ Still y → ⊥
-never e =
-    let z : _≡_ {A = ℕ} 0 1 = cc in
-    omega arith
-
-still-same : {x y : Slot} → Still x ≡ Still y → x ≡ y
-still-same e = cc
-
-module _ (k : ℕ) (x : Slot) (t : Thing) (ts : List Thing) where
-  added-on : {y : Slot} → fate k x t ≡ Still y → added k x (t ∷ ts) ≡ addedBy x t (added k y ts)
-  unfolding added
-  added-on e = ap (λ (f : Fate). elim f [ Still z ↦ addedBy x t (added k z ts) | Ended ↦ [] ]) e
+use Rattle.history.proofs.Follows.{follow-on, follow-over, opened-slot, complete-held, held-exactly}
+use Rattle.history.proofs.Pages.{files-carried}
 
 -- a thing that leaves the file as it was adds nothing to it
-packet-none : (k : ℕ) (x : Slot) (c : Channel) (p : List ℕ) (e a : Bool)
-    → _≡_ {A = Fate} (if e then Ended else Still (if a then nextSlot x (packetOf p) else x)) (Still x) → a ≡ false
-packet-none k x c p true a q = absurd (never q)
-packet-none k x c p false true q =
-    let more : x .accepted + 1 ≡ x .accepted = ap (λ (y : Slot). y .accepted) (still-same q) in
+none-added : (x : Slot) (t : Thing) (ps : List (List ℕ)) → Next x t x → addedBy x t ps ≡ ps
+none-added x t ps (none e f) = f ps
+none-added x t ps (one g e f) =
+    let more : x .accepted ≡ x .accepted + 1 = ap (λ (y : Slot). y .accepted) e in
     absurd (omega arith)
-packet-none k x c p false false q = refl
 
 adds-none : (k : ℕ) (x : Slot) (t : Thing) (ps : List (List ℕ)) → fate k x t ≡ Still x → addedBy x t ps ≡ ps
-unfolding fate
-adds-none k x (packet c p) ps e = if-false (p ∷ ps) ps (packet-none k x c p (ends x c p) (adds x c p) e)
-adds-none k x (left i d) ps e = refl
-adds-none k x (gone j) ps e = refl
+adds-none k x t ps e = none-added x t ps (next-as k x t x e)
 
 -- along the things that follow
 pages-follow : {s : Station} {store : List ℕ} (ts : List Thing) → Settled s store → AllRightly s store ts → (k : ℕ) → k < 32 → held (slotAt s k) ≡ true
@@ -88,8 +73,8 @@ pages-follow {s} {store} (t ∷ ts) h r k low e l y q =
         ∙ ap (λ (ps : List (List ℕ)). l k ++ map dataOf ps)
         (sym
         (added-on k (slotAt s k) t ts f ∙ ap (λ (i : Thing). addedBy (slotAt s k) i (added k z ts)) a ∙ if-true (p ∷ added k z ts) (added k z ts) yes))
-    by (leaves f n why) rest = absurd (never (sym (follow-over k (slotAt s k) t ts f) ∙ q))
-    by (opens a u st why o m n) rest = absurd (never (sym (follow-over k (slotAt s k) t ts (why e .0)) ∙ q))
+    by (leaves f n why) rest = absurd (never-still (sym (follow-over k (slotAt s k) t ts f) ∙ q))
+    by (opens a u st why o m n) rest = absurd (never-still (sym (follow-over k (slotAt s k) t ts (why e .0)) ∙ q))
 
 -- event 10 begins the page
 told-among : (n k a : ℕ) (es : List Event) → Among (at n a k) es → told n k es ≡ true
@@ -126,7 +111,7 @@ came-page s store ts h r k low y m l =
     let h₀ = all-settled (m .before) h r₀ in
     let j = did (b .station) (b .store) first in
     let slot : slotAt (j .station) k ≡ firstSlot (m .channel) (packetOf (m .first)) (m .file) =
-    opened-slot h₀ k (m .channel) (m .first) (m .opened) (m .right) in
+    opened-slot h₀ k (m .channel) (m .first) (m .opened) (m .starts .right) in
     let one : slotAt (j .station) k .accepted ≡ 1 = ap (λ (z : Slot). z .accepted) slot in
     let l₀ = notedAll s store (m .before) l in
     ap (λ (us : List Thing). notedAll s store us l k) (m .split)
@@ -152,3 +137,22 @@ pages-came x cs k low y m =
     let w = fresh x in
     ap (λ (a : Ledger). a k) (ledger-things w cs noPages)
     ∙ came-page (w .station) (w .store) (allThings w cs) (settled (fresh-sound x)) (run-rightly (fresh-sound x) cs) k low y m noPages
+
+-- octet by octet
+data-at : (ps : List (List ℕ)) (i : ℕ) → getD (map dataOf ps) i [] ≡ dataOf (getD ps i [])
+data-at ps i = List·getD-map dataOf ps i []
+
+pub no-strip : (x : Start) (cs : List Call) → NoStrip x cs
+no-strip x cs k low y m done offset buffer fits i l =
+    let w = run (fresh x) cs in
+    let page = ledgerRun (fresh x) cs noPages k in
+    let slot : slotAt (w .station) k ≡ y = held-exactly x cs k low y (complete-held y done .0) .1 m in
+    let file = files-carried x cs k low (ap complete slot ∙ done) in
+    let n = 10 + (offset + i) in
+    let inside : offset + length buffer ≤ octetsOfBits (slotAt (w .station) k .bits) = rw slot fits in
+    ap (λ (r : List ℕ). getD r i 0) (file .read-part offset buffer inside .1)
+    ∙ part-at (carried page) offset (length buffer) i 0 l
+    ∙ ap (λ (r : List ℕ). getD r (offset + i) 0) (sym (file .octets))
+    ∙ file .octet (offset + i) (omega arith)
+    ∙ ap (λ (q : Page). getD (getD q (n / 8190) []) (n % 8190) 0) (pages-came x cs k low y m)
+    ∙ ap (λ (d : List ℕ). getD d (n % 8190) 0) (data-at (packetsOf m) (n / 8190))

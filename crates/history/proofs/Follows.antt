@@ -6,7 +6,7 @@ use mathlib.Core.List.{List, [], _∷_, List·Memᴰ, List·Memᴰ·not-nil, Lis
 use mathlib.Core.List.List·Memᴰ.{List·Memᴰ·head, List·Memᴰ·tail}
 use Prim.Native.Nat.{ℕ, _+_, _/_, _<_}
 use native.Mathlib.Omega.{arith}
-use borrow.Author.Tests.{eq-eqb}
+use borrow.Author.Tests.{eq-eqb, eqb-true}
 use lib.Dec.{eqb}
 use lib.ListN.{length}
 use Rattle.octets.specs.Choice.{if_then_else_}
@@ -22,9 +22,9 @@ use Rattle.state.specs.declared.Slot.{Slot}
 use Rattle.state.specs.declared.Station.{Station}
 use Rattle.state.specs.Slots.{slotAt, held, complete, needOf}
 use Rattle.state.specs.Blocks.{blocksOf}
-use Rattle.state.proofs.Each.{and-left}
+use Rattle.octets.proofs.Tests.{and-left, and-right}
 use Rattle.room.proofs.Keeps.{accepted-held}
-use Rattle.judge.specs.Event.{Event, at}
+use Rattle.judge.specs.Event.{Event, at, Among}
 use Rattle.judge.specs.Judge.{Judged, dataOf, firstSlot, nextSlot, judged}
 use Rattle.judge.proofs.Parts.{nextKind}
 use Rattle.judge.proofs.Keeps.{file-going}
@@ -37,7 +37,8 @@ use Rattle.history.specs.Things.{Thing, did, didAll, allThings}
 use Rattle.history.specs.Things.Thing.{packet, gone}
 use Rattle.history.specs.Follow.{Fate, fate, follow}
 use Rattle.history.specs.Follow.Fate.{Still, Ended}
-use Rattle.history.specs.Demands.{Among, Keeps, Came, HeldExactly, CompleteExactly}
+use Rattle.history.specs.Files.{Came, HeldExactly}
+use Rattle.history.specs.Store.{Keeps}
 use Rattle.history.proofs.Moments.{Settled, settled, AllRightly, did-append, did-settled, all-settled, rightly-rest, run-leaves, run-rightly}
 use Rattle.history.proofs.Sound.{fresh-sound}
 use Rattle.history.proofs.Turns.{LetGo, Turn, turn}
@@ -177,7 +178,7 @@ came-held s store ts h r k low x m =
     let b = didAll s store (m .before) in
     let h₀ = all-settled (m .before) h r₀ in
     let j = did (b .station) (b .store) first in
-    let slot : slotAt (j .station) k ≡ firstSlot (m .channel) (packetOf (m .first)) (m .file) = opened-slot h₀ k (m .channel) (m .first) (m .opened) (m .right) in
+    let slot : slotAt (j .station) k ≡ firstSlot (m .channel) (packetOf (m .first)) (m .file) = opened-slot h₀ k (m .channel) (m .first) (m .opened) (m .starts .right) in
     let one : slotAt (j .station) k .accepted ≡ 1 = ap (λ (y : Slot). y .accepted) slot in
     let f = fares (m .later) (did-settled first h₀ (r₁ .0)) (r₁ .1) k low (accepted-held (slotAt (j .station) k) (omega arith)) in
     let e : follow k (slotAt (j .station) k) (m .later) ≡ Still x = ap (λ (y : Slot). follow k y (m .later)) slot ∙ m .followed in
@@ -201,7 +202,7 @@ came-later s store t ts k x m =
       later = m .later;
       file = m .file;
       split = ap (λ (us : List Thing). t ∷ us) (m .split);
-      right = m .right;
+      starts = m .starts;
       opened = m .opened;
       followed = m .followed;
     }
@@ -224,7 +225,7 @@ module _ {s : Station} {store : List ℕ} (h : Settled s store) (t : Thing) (ts 
         later = ts;
         file = o .file;
         split = ap (λ (i : Thing). i ∷ ts) a;
-        right = o .right;
+        starts = record { undamaged = u; starting = st; right = o .right };
         opened = subst (λ (i : Thing). Among (at 10 (packetOf p .application .0) k) (did s store i .events)) a m;
         followed = ap (λ (y : Slot). follow k y ts) (sym (o .slot)) ∙ q;
       })
@@ -239,9 +240,11 @@ origin {s} {store} (t ∷ ts) h r k low e =
     ⊎-elim (λ (a, f). came-first h t ts k x (turn h k low t) a f) (λ m. inr (came-later s store t ts k x m))
     (origin ts (did-settled t h (r .0)) (r .1) k low e)
 
-complete-held : (x : Slot) → complete x ≡ true → held x ≡ true
+-- a complete file is held, and all its packets are accepted
+pub complete-held : (x : Slot) → complete x ≡ true → (held x ≡ true) × (x .accepted ≡ needOf x)
 unfolding complete
-complete-held x e = and-left (held x) (eqb (x .accepted) (needOf x)) e
+complete-held x e =
+    (and-left (held x) (eqb (x .accepted) (needOf x)) e, eqb-true (x .accepted) (needOf x) (and-right (held x) (eqb (x .accepted) (needOf x)) e))
 
 -- from a fresh station no file was there before
 pub fresh-held : (x : Start) (k : ℕ) → held (slotAt (fresh x .station) k) ≡ false
@@ -259,7 +262,7 @@ module _ (x : Start) (cs : List Call) where
   end : didAll (fresh x .station) (fresh x .store) (allThings (fresh x) cs) .station ≡ run (fresh x) cs .station
   end = run-leaves (fresh x) cs .station
 
-  came : (k : ℕ) → k < 32 → held (slotAt (run (fresh x) cs .station) k) ≡ true
+  pub came : (k : ℕ) → k < 32 → held (slotAt (run (fresh x) cs .station) k) ≡ true
       → Came (fresh x .station) (fresh x .store) (allThings (fresh x) cs) k (slotAt (run (fresh x) cs .station) k)
   came k low e =
       ⊎-elim (λ (f, q). absurd (true≢false (sym f ∙ fresh-held x k))) (λ m. rw end at m)
@@ -269,10 +272,4 @@ module _ (x : Start) (cs : List Call) where
   held-exactly k low y e = (
     λ q. subst (Came (fresh x .station) (fresh x .store) (allThings (fresh x) cs) k) q (came k low (ap held q ∙ e)),
     λ m. ap (λ (s : Station). slotAt s k) (sym end) ∙ came-held (fresh x .station) (fresh x .store) (allThings (fresh x) cs) here right k low y m,
-  )
-
-  pub complete-exactly : CompleteExactly x cs
-  complete-exactly k low = (
-    λ e. (slotAt (run (fresh x) cs .station) k, came k low (complete-held (slotAt (run (fresh x) cs .station) k) e), e),
-    λ (y, m, e). ap complete (held-exactly k low y (complete-held y e) .1 m) ∙ e,
   )

@@ -17,7 +17,7 @@ use Rattle.state.specs.declared.Station.{Station}
 use Rattle.state.specs.Slots.{number}
 use Rattle.state.specs.Sound.{Sized}
 use Rattle.state.specs.Decision.{isSound, areDesksSound}
-use Rattle.state.proofs.Each.{and-right}
+use Rattle.octets.proofs.Tests.{and-right}
 use Rattle.judge.specs.Contract.{Watched}
 use Rattle.zone.specs.Walk.{walked}
 use Rattle.station.specs.SetUp.{desksFit, channelOf}
@@ -39,8 +39,7 @@ pub record Taken (w : World) (f list : List ℕ) : Type 0 where
       (walked (channelAt (w .station) (frame .desk)) (w .station) (w .desks) (w .store) (zoneOf (derandomised f)) frame)
 
 pub data Framing (w : World) (f list : List ℕ) : Type 0 where
-  refuses : (n : ℕ) → 1 ≤ n → n ≤ 9 → frameIn w f list ≡ frameGives n 0 (w .station) (w .desks) (w .store) list
-      → (n ≡ 2 → (isSound (w .station) && areDesksSound (w .station) (w .desks)) ≡ false) → Framing w f list
+  refuses : (n : ℕ) → 1 ≤ n → frameIn w f list ≡ frameGives n 0 (w .station) (w .desks) (w .store) list → Framing w f list
   takes : Taken w f list → Framing w f list
 
 -- what is enough for a frame to be taken
@@ -61,18 +60,18 @@ framing w f list = lends (lentRight s (w .desks) (w .store) list) refl
         → (e : Examined) → examinedIn w f ≡ e → Framing w f list
     by l h d (Refused n) e =
         let m = refusal-number (s .spacecraft) (take (s .channels) (s .watched)) f n e in
-        refuses n (omega arith) (m .1) (rw (l, h, d, e)) (λ q. absurd (omega arith))
+        refuses n (omega arith) (rw (l, h, d, e))
     by l h d (Good a) e =
         takes (takes-good w f list l h d e)
 
     sounds : lentRight s (w .desks) (w .store) list ≡ true → (b c : Bool) → isSound s ≡ b → areDesksSound s (w .desks) ≡ c → Framing w f list
     sounds l true true p q = by l p q (examinedIn w f) refl
-    sounds l true false p q = refuses 2 (omega arith) (omega arith) (rw (l, p, q)) (λ r. rw (p, q))
-    sounds l false c p q = refuses 2 (omega arith) (omega arith) (rw (l, p)) (λ r. rw p)
+    sounds l true false p q = refuses 2 (omega arith) (rw (l, p, q))
+    sounds l false c p q = refuses 2 (omega arith) (rw (l, p))
 
     lends : (b : Bool) → lentRight s (w .desks) (w .store) list ≡ b → Framing w f list
     lends true e = sounds e (isSound s) (areDesksSound s (w .desks)) refl refl
-    lends false e = refuses 1 (omega arith) (omega arith) (rw e) (λ q. absurd (omega arith))
+    lends false e = refuses 1 (omega arith) (rw e)
 
 -- the channel of a desk is watched
 pub channel-watched : (s : Station) (i : ℕ) → i < s .channels → Watched s (channelAt s i)

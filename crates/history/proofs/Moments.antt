@@ -1,6 +1,6 @@
 -- A run of calls is a list of things, one after the other, and the state is sound before and after each of them. Assumes nothing.
 use mathlib.Core.Path.{_≡_, refl, sym, ap, ap₂, subst, _∙_}
-use mathlib.Core.Bool.{true, true≢false}
+use mathlib.Core.Bool.{true≢false}
 use mathlib.Core.List.{List, [], _∷_, _++_, map}
 use Prim.Native.Nat.{ℕ, _*_, _<_}
 use native.Mathlib.Decide.{ℕ-discrete}
@@ -19,7 +19,7 @@ use Rattle.room.proofs.Keeps.{refiled-sized, letGo-refiles, letGo-sound}
 use Rattle.judge.specs.Judge.{Judged, gives, after, judged}
 use Rattle.judge.specs.Contract.{Watched}
 use Rattle.judge.proofs.Keeps.{stays-sized, stays-watched, stays-refiled, judged-stays, judged-store, judged-sound}
-use Rattle.zone.specs.Walk.{judgedAll, readingOf, withDesk, walked}
+use Rattle.zone.specs.Walk.{judgedAll, deskAfter, readingOf, withDesk, walked}
 use Rattle.zone.proofs.Split.{unfinished-few, split-left}
 use Rattle.zone.proofs.Walks.{after-after, desk-sized, desk-sound}
 use Rattle.station.specs.declared.Answered.{Answered}
@@ -27,11 +27,11 @@ use Rattle.station.specs.Files.{answered, released, dropped}
 use Rattle.station.specs.Frame.{FrameOutcome, channelAt}
 use Rattle.station.proofs.Calls.{release-outcome, drop-outcome, release-zero, drop-zero}
 use Rattle.history.specs.Run as runs
-use Rattle.history.specs.Run.{World, Call, answer, run, fresh, SoundWorld}
+use Rattle.history.specs.Run.{World, Call, answer, run, SoundWorld}
 use Rattle.history.specs.Run.Call.{frame, read, release, drop}
 use Rattle.history.specs.Things.{Thing, did, didAll, examinedIn, splitIn, framedThings, things, allThings}
 use Rattle.history.specs.Things.Thing.{packet, left, gone}
-use Rattle.history.specs.Demands.{Moment}
+use Rattle.history.specs.Store.{Moment, worldAt, stationAt, storeAt}
 use Rattle.history.proofs.Framing.{Taken, Framing, framing, channel-watched}
 use Rattle.history.proofs.Framing.Framing.{refuses, takes}
 use Rattle.history.proofs.Refused.{every-answer}
@@ -66,8 +66,8 @@ did-frame c s store ps i d =
 
 -- a state with its store
 pub record Settled (s : Station) (store : List ℕ) : Type 0 where
-  pub sized : Sized s
   pub sound : Sound s
+  pub sized : Sized s
   pub stored : length store ≡ 8190 * s .blocks
 
 pub settled : {w : World} → SoundWorld w → Settled (w .station) (w .store)
@@ -97,8 +97,8 @@ did-settled {s} (left i d) h r =
 did-settled {s} (gone k) h low =
     let r = letGo-refiles s k in
     record {
-      sized = refiled-sized r (h .sized);
       sound = letGo-sound (h .sized) (h .sound) low;
+      sized = refiled-sized r (h .sized);
       stored = rw (stays-refiled r .blocks) (h .stored);
     }
 
@@ -171,7 +171,7 @@ module _ (w : World) where
   frame-taken f list e = by (framing w f list)
     where
       by : Framing w f list → Taken w f list
-      by (refuses n one nine q two) = absurd (omega (arith, ap (λ (r : FrameOutcome). r .answer) q))
+      by (refuses n one q) = absurd (omega (arith, ap (λ (r : FrameOutcome). r .answer) q))
       by (takes t) = t
 
 -- what a call leaves is what its things leave
@@ -191,7 +191,7 @@ module _ (w : World) where
       let s = w .station in
       let a = t .frame in
       let sp = splitIn w f a in
-      let e = did-frame (channelAt s (a .desk)) s (w .store) (sp .packets) (a .desk) (record { held = length (sp .left); seen = true; counter = a .counter }) in
+      let e = did-frame (channelAt s (a .desk)) s (w .store) (sp .packets) (a .desk) (deskAfter a (length (sp .left))) in
       rw (things-taken w t)
       (record {
         station = ap (λ (j : Judged). j .station) e ∙ sym (ap (λ (r : FrameOutcome). r .station) (t .gives));
@@ -269,9 +269,16 @@ run-rightly {w} h (c ∷ cs) =
     (rw (l .station, l .store) (run-rightly (after-sound h c) cs))
 
 -- the state at any moment of a run
-pub moment-settled : {s : Station} {store : List ℕ} {c : Channel} {p : List ℕ} → Moment s store c p → Settled s store
-moment-settled {c = c} {p = p} m =
-    let w = run (fresh (m .start)) (m .calls) in
-    let h = run-sound (fresh-sound (m .start)) (m .calls) in
-    let r = subst (AllRightly (w .station) (w .store)) (m .brought) (call-rightly h (frame (m .octets) (m .list))) in
-    rw (m .state, m .memory) at (all-settled (m .before) (settled h) (rightly-rest (w .station) (w .store) (m .before) (packet c p ∷ m .later) r .0))
+module _ (m : Moment) where
+  world-then : SoundWorld (worldAt m)
+  world-then = run-sound (fresh-sound (m .start)) (m .calls)
+
+  pub moment-rightly : AllRightly (worldAt m .station) (worldAt m .store) (m .before)
+      × AllRightly (stationAt m) (storeAt m) (packet (m .channel) (m .p) ∷ m .later)
+  moment-rightly =
+      let w = worldAt m in
+      rightly-rest (w .station) (w .store) (m .before) (packet (m .channel) (m .p) ∷ m .later)
+      (subst (AllRightly (w .station) (w .store)) (m .brought) (call-rightly world-then (frame (m .sent) (m .list))))
+
+  pub moment-settled : Settled (stationAt m) (storeAt m)
+  moment-settled = all-settled (m .before) (settled world-then) (moment-rightly .0)

@@ -7,7 +7,7 @@ use mathlib.Core.List.{List, [], _∷_, _++_, flatten}
 use Prim.Native.Nat.{ℕ, zero, _+_, _-_, _*_, _/_, _%_, _≤_, _<_}
 use native.Mathlib.Decide.{decLt}
 use native.Mathlib.Omega.{arith}
-use borrow.Author.Tests.{eq-eqb, ne-eqb, eqb-true, le-leb}
+use borrow.Author.Tests.{eq-eqb, ne-eqb, le-leb}
 use lib.Dec.{eqb}
 use lib.ListN.{length, take, drop, getD, length-append, length-drop, List·getD-append}
 use lib.Seq.{take-append-seam, getD-append-seam, getD-drop}
@@ -22,7 +22,7 @@ use Rattle.state.specs.declared.Slot.{Slot}
 use Rattle.state.specs.declared.Station.{Station}
 use Rattle.state.specs.Slots.{slotAt, held, complete, needOf}
 use Rattle.state.specs.Blocks.{blocksOf}
-use Rattle.state.proofs.Each.{and-left, and-right, and-both}
+use Rattle.octets.proofs.Tests.{and-both}
 use Rattle.state.proofs.Exactly.{held-accepted}
 use Rattle.room.specs.File.{blockOctets, joined, fileOctets}
 use Rattle.judge.specs.Judge.{dataOf, firstSlot, nextSlot}
@@ -35,10 +35,11 @@ use Rattle.history.specs.Run.{World, Call, answer, after, run, Start, fr
 use Rattle.history.specs.Run.Call.{read}
 use Rattle.history.specs.Things.{Thing, did, didAll, things}
 use Rattle.history.specs.Ledger.{Page, Ledger, notedBy, notedAll, ledgerAfter, ledgerRun, noPages}
-use Rattle.history.specs.Demands.{entrySize, PageRight, carried, FileRight, LedgerOfRun, resultOf}
+use Rattle.history.specs.Calls.{resultOf}
+use Rattle.history.specs.Files.{entrySize, PageRight, carried, FileRight, BlocksHold, FilesCarried}
 use Rattle.history.proofs.Sound.{after-sound, fresh-sound, run-sound, world-sound}
 use Rattle.history.proofs.Moments.{Settled, settled, AllRightly, did-settled, call-leaves, call-rightly}
-use Rattle.history.proofs.Follows.{fresh-held}
+use Rattle.history.proofs.Follows.{complete-held, fresh-held}
 use Rattle.history.proofs.Joined.{Full, joined-length, joined-at, joined-blocks}
 use Rattle.history.proofs.Turns.{none-held, Turn, turn}
 use Rattle.history.proofs.Turns.Turn.{stays, goes, leaves, opens}
@@ -164,11 +165,6 @@ run-pages h [] l p = p
 run-pages {w} h (c ∷ cs) l p = run-pages (after-sound h c) cs (ledgerAfter w c l) (call-pages h c l p)
 
 -- a complete file
-complete-all : (x : Slot) → complete x ≡ true → (held x ≡ true) × (x .accepted ≡ needOf x)
-unfolding complete
-complete-all x e =
-    (and-left (held x) (eqb (x .accepted) (needOf x)) e, eqb-true (x .accepted) (needOf x) (and-right (held x) (eqb (x .accepted) (needOf x)) e))
-
 module _ (x : Slot) (bs store : List ℕ) (q : Page) (r : PageRight x bs store q) (all : x .accepted ≡ needOf x) where
   full : Full q
   full i l =
@@ -212,7 +208,7 @@ module _ {w : World} (h : SoundWorld w) (k : ℕ) (low : k < 32) (done : complet
   unfolding fileOctets
   file-octets =
       let x = slotAt (w .station) k in
-      let (here, all) = complete-all x done in
+      let (here, all) = complete-held x done in
       page-octets x (blocksOf (w .station) k) (w .store) q r all (h .sound .files k low here .places)
 
   reads : (offset : ℕ) (buffer : List ℕ) → offset + length buffer ≤ octetsOfBits (slotAt (w .station) k .bits)
@@ -234,7 +230,7 @@ module _ {w : World} (h : SoundWorld w) (k : ℕ) (low : k < 32) (done : complet
   file-right : FileRight w k q
   file-right =
       let x = slotAt (w .station) k in
-      let (here, all) = complete-all x done in
+      let (here, all) = complete-held x done in
       let bs = blocksOf (w .station) k in
       record {
         octets = file-octets;
@@ -243,13 +239,12 @@ module _ {w : World} (h : SoundWorld w) (k : ℕ) (low : k < 32) (done : complet
         octet = λ n l. ap (λ (xs : List ℕ). getD xs n 0) file-octets ∙ page-octet x bs (w .store) q r all n l;
       }
 
--- "its first blocks hold the data of its accepted packets in order"; "Its octets are those its packets carried"
-pub ledger-right : (x : Start) (cs : List Call) → LedgerOfRun x cs
-ledger-right x cs =
-    let w = run (fresh x) cs in
-    let h = run-sound (fresh-sound x) cs in
-    let p = run-pages (fresh-sound x) cs noPages (λ k low e. absurd (true≢false (sym e ∙ fresh-held x k))) in
-    record {
-      pages = p;
-      files = λ k low done. file-right h k low done (ledgerRun (fresh x) cs noPages k) (p k low (complete-all (slotAt (w .station) k) done .0));
-    }
+-- "its first blocks hold the data of its accepted packets in order"
+pub blocks-hold : (x : Start) (cs : List Call) → BlocksHold x cs
+blocks-hold x cs = run-pages (fresh-sound x) cs noPages (λ k low e. absurd (true≢false (sym e ∙ fresh-held x k)))
+
+-- "Its octets are those its packets carried"
+pub files-carried : (x : Start) (cs : List Call) → FilesCarried x cs
+files-carried x cs k low done =
+    file-right (run-sound (fresh-sound x) cs) k low done (ledgerRun (fresh x) cs noPages k)
+    (blocks-hold x cs k low (complete-held (slotAt (run (fresh x) cs .station) k) done .0))

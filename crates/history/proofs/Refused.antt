@@ -1,73 +1,57 @@
 -- Every call, on any octets and any state, is answered by one of its numbers; and where that is not 0, nothing changes. Assumes nothing.
-use mathlib.Core.Path.{_≡_, refl, ap, _∙_}
-use mathlib.Core.Bool.{true, or-true}
-use mathlib.Core.List.{List, [], _∷_}
-use Prim.Native.Nat.{ℕ, zero, suc, _+_, _≤_, _<_}
+use mathlib.Core.Path.{_≡_, refl, ap}
+use mathlib.Core.Bool.{Bool, true, false, not, _||_, false≢true}
+use mathlib.Core.List.{List}
+use Prim.Native.Nat.{ℕ}
 use native.Mathlib.Decide.{ℕ-discrete}
-use native.Mathlib.Omega.{arith}
-use borrow.Author.Tests.{eq-eqb}
-use Rattle.state.specs.Decision.{among}
+use Rattle.state.specs.Decision.{goodChannels}
+use Rattle.octets.specs.Reasons.{Reason}
 use Rattle.station.specs.Files.{ReadOutcome}
 use Rattle.station.specs.Frame.{FrameOutcome}
-use Rattle.station.proofs.Calls.{release-outcome, drop-outcome, read-outcome}
+use Rattle.station.proofs.Decided.{Outcome}
+use Rattle.station.proofs.Calls.{frame-outcome, release-outcome, drop-outcome, read-outcome, setUp-outcome, setUp-ten}
 use Rattle.history.specs.Run.{World, Call, answer, after}
 use Rattle.history.specs.Run.Call.{frame, read, release, drop}
-use Rattle.history.specs.Demands.{resultOf, eventCount, Answers}
-use Rattle.history.proofs.Framing.{Framing, framing}
-use Rattle.history.proofs.Framing.Framing.{refuses, takes}
+use Rattle.history.specs.Calls.{ByNumber, resultOf, eventCount, Answers, SetsUp}
 
--- the numbers from a on, m of them
-abbrev from : ℕ → ℕ → List ℕ
-from a zero = []
-from a (suc m) = a ∷ from (suc a) m
+by-number : {A : Type 0} {answer : A → ℕ} {rs : List Reason} {d : A} {f : ℕ → A} {r : A} → Outcome answer rs d f r → ByNumber rs (answer r)
+by-number {answer = answer} {r = r} o =
+    record {
+      one-of = o .one-of;
+      given = λ n. o .refused n .1;
+      zero = λ none. elim (ℕ-discrete (answer r) 0) [ yes e ↦ e | no n ↦ absurd (none (answer r) (o .refused n .1)) ];
+    }
 
-among-from : (n a m : ℕ) → a ≤ n → n < a + m → among n (from a m) ≡ true
-unfolding among
-among-from n a zero l h = absurd (omega arith)
-among-from n a (suc m) l h =
-    elim (ℕ-discrete a n) [
-      | yes e ↦ rw (eq-eqb a n e)
-      | no f ↦ rw (among-from n (suc a) m (omega arith) (omega arith), or-true)
-    ]
-
-up-to-nine : (n : ℕ) → n ≤ 9 → among n (from 0 10) ≡ true
-up-to-nine n l = among-from n 0 10 (omega arith) (omega arith)
-
+-- "Whatever octets come off the dish, and whatever state we hand back, every call .. answers by the rules paper's numbers. A refused
+-- call changes no octet of desks or store, no slot and no event."
 module _ (w : World) where
-  frame-answers : (f list : List ℕ) → Framing w f list → Answers w (frame f list)
+  pub every-answer : (c : Call) → Answers w c
   unfolding answer after resultOf eventCount
-  frame-answers f list (refuses n one nine e two) =
+  every-answer (frame f list) =
+      let o = frame-outcome (w .station) (w .desks) (w .store) list f in
       record {
-        by-number = ap (λ (r : FrameOutcome). among (r .answer) (from 0 10)) e ∙ up-to-nine n nine;
+        number = by-number o;
+        lowest = o .lowest refl;
         refused =
             λ h.
             record {
-              world = ap (λ (r : FrameOutcome). record { station = r .station; desks = r .desks; store = r .store }) e;
-              lent = ap (λ (r : FrameOutcome). r .list) e;
-              events = ap (λ (r : FrameOutcome). r .events) e;
+              world = ap (λ (r : FrameOutcome). record { station = r .station; desks = r .desks; store = r .store }) (o .refused h .0);
+              lent = ap (λ (r : FrameOutcome). r .list) (o .refused h .0);
+              events = ap (λ (r : FrameOutcome). r .events) (o .refused h .0);
             };
       }
-  frame-answers f list (takes t) =
-      record {
-        by-number = ap (λ (r : FrameOutcome). among (r .answer) (from 0 10)) (t .gives) ∙ up-to-nine 0 (omega arith);
-        refused = λ h. absurd (h (ap (λ (r : FrameOutcome). r .answer) (t .gives)));
-      }
-
-  -- "Whatever octets come off the dish, and whatever state we hand back, every call .. answers by the rules paper's numbers. A refused
-  -- call changes no octet of desks or store, no slot and no event."
-  pub every-answer : (c : Call) → Answers w c
-  unfolding answer after resultOf eventCount
-  every-answer (frame f list) = frame-answers f list (framing w f list)
   every-answer (read k offset buffer) =
       let o = read-outcome (w .station) k (w .store) offset buffer in
       record {
-        by-number = o .one-of;
+        number = by-number o;
+        lowest = o .lowest refl;
         refused = λ h. record { world = refl; lent = ap (λ (r : ReadOutcome). r .buffer) (o .refused h .0); events = refl };
       }
   every-answer (release k) =
       let o = release-outcome (w .station) k in
       record {
-        by-number = o .one-of;
+        number = by-number o;
+        lowest = o .lowest refl;
         refused =
             λ h.
             record {
@@ -79,7 +63,8 @@ module _ (w : World) where
   every-answer (drop k) =
       let o = drop-outcome (w .station) k in
       record {
-        by-number = o .one-of;
+        number = by-number o;
+        lowest = o .lowest refl;
         refused =
             λ h.
             record {
@@ -88,3 +73,16 @@ module _ (w : World) where
               events = refl;
             };
       }
+
+not-good : (b : Bool) → (not b || false) ≡ true → b ≡ false
+not-good true e = absurd (false≢true e)
+not-good false e = refl
+
+pub every-set-up : (craft : ℕ) (channels desks store : List ℕ) → SetsUp craft channels desks store
+every-set-up craft channels desks store =
+    let o = setUp-outcome craft channels desks store in
+    record {
+      number = by-number o;
+      ten = λ e. setUp-ten craft channels desks store (not-good (goodChannels channels) e);
+      refused = λ n. o .refused n .0;
+    }

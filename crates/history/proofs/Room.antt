@@ -5,12 +5,15 @@ use mathlib.Core.Logic.{_↔_}
 use mathlib.Core.List.{List}
 use Prim.Native.Nat.{ℕ, _-_, _<_}
 use native.Mathlib.Omega.{arith}
+use lib.ListN.{length}
 use Rattle.frame.specs.declared.Channel.{Channel}
 use Rattle.packet.specs.Header.{packetOf}
 use Rattle.transport.specs.declared.Transport.{Transport}
+use Rattle.transport.specs.Length.{need}
+use Rattle.state.specs.declared.Slot.{Slot}
 use Rattle.state.specs.declared.Station.{Station}
-use Rattle.state.specs.Slots.{slotAt, held}
-use Rattle.state.specs.Blocks.{needs, room}
+use Rattle.state.specs.Slots.{slotAt, held, needOf}
+use Rattle.state.specs.Blocks.{blocksOf, needs, room}
 use Rattle.state.specs.Sound.{Sized, Sound}
 use Rattle.state.proofs.Places.{needs-fit}
 use Rattle.room.specs.declared.Found.{Found}
@@ -18,15 +21,21 @@ use Rattle.room.specs.declared.Found.the-variants.{At, Nothing}
 use Rattle.room.specs.Find.{freeSlot, fileOf}
 use Rattle.room.specs.Move.{letGo}
 use Rattle.room.proofs.Find.{free-at, free-nowhere}
-use Rattle.room.proofs.Keeps.{refiled-slot, refiled-sized, letGo-refiles, letGo-sound, letGo-room}
-use Rattle.judge.specs.Event.{of, at}
-use Rattle.judge.specs.Judge.{judged}
+use Rattle.room.proofs.Keeps.{refiled-slot, refiled-sized, letGo-refiles, letGo-sound, letGo-room, accepted-held}
+use Rattle.judge.specs.Event.{of, at, Among}
+use Rattle.judge.specs.Judge.{firstSlot, judged}
+use Rattle.judge.specs.Packets.{Starts}
+use Rattle.judge.specs.Contract.{Watched}
 use Rattle.judge.proofs.Keeps.{file-going, stays-refiled}
 use Rattle.judge.proofs.Steps.{rid}
-use Rattle.judge.proofs.Exact.{Starts, cleared, Given, given-exactly, too-large-exactly, opened-exactly}
+use Rattle.judge.proofs.Exact.{cleared, Given, given-exactly, too-large-exactly, opened-exactly}
 use Rattle.judge.proofs.Exact.Given.{all-held, opened}
-use Rattle.history.specs.Demands.{Among, needAt, roomFor, StartsFile, RoomExactly, Moment}
-use Rattle.history.proofs.Moments.{Settled, moment-settled}
+use Rattle.history.specs.Store.{stationAt, storeAt, needAt, roomFor, RoomExactly, EveryPacket, FromTheFirst, RefusedForRoom}
+use Rattle.history.specs.Things.{did}
+use Rattle.history.specs.Things.Thing.{packet}
+use Rattle.history.proofs.Moments.{Settled, did-settled, moment-settled}
+use Rattle.history.proofs.Follows.{opened-slot}
+use Rattle.history.proofs.Blocks.{moment-packet}
 use Rattle.history.proofs.Turns.{none-held}
 
 unless : (f : Found) {g : Found} → g ≡ f → ((k : ℕ) → g ≡ At k → ⊥) → g ≡ Nothing
@@ -84,10 +93,7 @@ module _ {s : Station} (z : Sized s) (S : Sound s) (c : Channel) (p : List ℕ) 
             λ (q, all). absurd (never q),
           )
 
-module _ {s : Station} {store : List ℕ} (h : Settled s store) (c : Channel) (p : List ℕ) {t : Transport} (g : StartsFile p t) where
-  start : Starts p t
-  start = record { undamaged = record { file = g .file; intact = g .intact }; starting = g .starting; right = g .right }
-
+module _ {s : Station} {store : List ℕ} (h : Settled s store) (c : Channel) (p : List ℕ) {t : Transport} (start : Starts p t) where
   eight-exactly : Among (of 8 (packetOf p .application .0)) (judged c s store p .events) ↔ (freeSlot (cleared c s p) ≡ Nothing)
   eight-exactly = (
     λ m. by (given-exactly c s store p (of 8 (packetOf p .application .0)) .0 m .reason),
@@ -111,7 +117,7 @@ module _ {s : Station} {store : List ℕ} (h : Settled s store) (c : Channel) (p
       by : Given c s p 10 k → k ≡ j
       by (opened g′ f′ l) = cc
 
-  pub room-exactly : RoomExactly s store c p t
+  pub room-exactly : RoomExactly s store c p (need (t .bits))
   room-exactly =
       let free = none-free (h .sized) (h .sound) c p in
       let same = room-cleared (h .sized) (h .sound) c p in
@@ -136,6 +142,28 @@ module _ {s : Station} {store : List ℕ} (h : Settled s store) (c : Channel) (p
 
 -- "A packet that starts a file and passes every earlier check is refused for room exactly if N exceeds all blocks less the needs of the
 -- held files, an older file that it has just ended not counted."
-pub refused-for-room-exactly : {s : Station} {store : List ℕ} {c : Channel} {p : List ℕ} → Moment s store c p → {t : Transport} → StartsFile p t
-    → RoomExactly s store c p t
-refused-for-room-exactly {c = c} {p = p} m g = room-exactly (moment-settled m) c p g
+pub refused-for-room-exactly : EveryPacket RefusedForRoom
+refused-for-room-exactly m t g = room-exactly (moment-settled m) (m .channel) (m .p) g
+
+-- "A file needing N blocks holds N from its first packet"
+module _ {s : Station} {store : List ℕ} (h : Settled s store) (c : Channel) (p : List ℕ) (w : Watched s c) (k : ℕ) where
+  opened-first : Among (at 10 (packetOf p .application .0) k) (judged c s store p .events) → Given c s p 10 k
+      → (t : Transport) × Starts p t × (slotAt (judged c s store p .station) k ≡ firstSlot c (packetOf p) t)
+      × (length (blocksOf (judged c s store p .station) k) ≡ need (t .bits))
+  unfolding did
+  opened-first n (opened {t} start f l) =
+      let j = judged c s store p in
+      let then = did-settled (packet c p) h w in
+      let slot : slotAt (j .station) k ≡ firstSlot c (packetOf p) t = opened-slot h k c p n (start .right) in
+      let one : slotAt (j .station) k .accepted ≡ 1 = ap (λ (x : Slot). x .accepted) slot in
+      let low : k < 32 = omega (arith, free-at (cleared c s p) k f .low, cleared-sized (h .sized) (h .sound) c p .slots) in (
+        t,
+        start,
+        slot,
+        then .sound .files k low (accepted-held (slotAt (j .station) k) (omega arith)) .places ∙ ap needOf slot,
+      )
+
+pub from-the-first : EveryPacket FromTheFirst
+from-the-first m k n =
+    opened-first (moment-settled m) (m .channel) (m .p) (moment-packet m .watched) k n
+    (given-exactly (m .channel) (stationAt m) (storeAt m) (m .p) (at 10 (packetOf (m .p) .application .0) k) .0 n .reason)

@@ -1,56 +1,27 @@
 -- Every world that a run reaches is sound, and no call on it is answered by 2. Assumes nothing.
 use mathlib.Core.Path.{_≡_, sym, ap, _∙_}
-use mathlib.Core.Bool.{true, _&&_, true≢false}
+use mathlib.Core.Bool.{true}
 use mathlib.Core.List.{List, [], _∷_}
-use Prim.Native.Nat.{ℕ, _*_, _<_}
+use Prim.Native.Nat.{ℕ, _*_, _≤_, _<_}
 use native.Mathlib.Omega.{arith}
-use borrow.Author.Tests.{eqb-true, eq-eqb, le-leb}
-use lib.Dec.{leb}
-use lib.ListN.{length}
 use Rattle.frame.specs.Header.{derandomised, zoneOf}
 use Rattle.frame.proofs.Answers.{good-size, counter-good}
 use Rattle.frame.proofs.Sizes.{length-derandomised, length-zone}
 use Rattle.state.specs.Decision.{isSound, areDesksSound}
-use Rattle.state.proofs.Each.{and-right, and-both}
 use Rattle.state.proofs.Exactly.{sound-true, desks-true}
 use Rattle.zone.specs.Walk.{walked}
 use Rattle.zone.specs.Contract.{Lent}
 use Rattle.zone.proofs.Walks.{Kept, walked-keeps}
 use Rattle.station.specs.declared.Answered.{Answered}
-use Rattle.station.specs.Answers.{Reason, slotSays}
-use Rattle.station.specs.Frame.{channelAt}
-use Rattle.station.proofs.Calls.{Goes, Ready, setUp-ready, goes-ready, release-outcome, drop-outcome, release-never-2, drop-never-2, read-never-2}
-use Rattle.history.specs.Run.{World, Call, answer, after, run, Start, fresh, SoundWorld}
+use Rattle.octets.specs.Reasons.{Reason}
+use Rattle.station.specs.Answers.{slotSays}
+use Rattle.station.specs.Frame.{FrameOutcome, channelAt}
+use Rattle.station.proofs.Calls.{Goes, setUp-ready, goes-ready, release-outcome, drop-outcome, frame-never-2, release-never-2, drop-never-2, read-never-2}
+use Rattle.history.specs.Run.{World, Call, frameIn, answer, after, run, Start, fresh, SoundWorld}
 use Rattle.history.specs.Run.Call.{frame, read, release, drop}
-use Rattle.history.specs.Demands.{EveryRun, NeverUnsound}
+use Rattle.history.specs.Demands.{EveryRun, NeverUnsound, FewEvents}
 use Rattle.history.proofs.Framing.{Taken, Framing, framing, channel-watched, taken-desk, taken-list}
 use Rattle.history.proofs.Framing.Framing.{refuses, takes}
-
--- the same in the words of the calls' laws
-ready-sound : (w : World) → Ready (w .station) (w .desks) (w .store) → SoundWorld w
-ready-sound w r =
-    record {
-      sized = r .sized;
-      sound = r .sound;
-      desks = r .desks;
-      desked = eqb-true (length (w .desks)) (8198 * w .station .channels) (r .desks-fit);
-      stored =
-          eqb-true (length (w .store)) (8190 * w .station .blocks)
-          (and-right (leb 1 (w .station .blocks) && leb (w .station .blocks) 4096) _ (r .store-fits));
-    }
-
-sound-ready : (w : World) → SoundWorld w → Ready (w .station) (w .desks) (w .store)
-sound-ready w h =
-    record {
-      sized = h .sized;
-      sound = h .sound;
-      desks = h .desks;
-      desks-fit = eq-eqb _ _ (h .desked);
-      store-fits =
-          and-both
-          (and-both (le-leb 1 (w .station .blocks) (h .sound .setUp .store)) (le-leb (w .station .blocks) 4096 (h .sound .setUp .least)))
-          (eq-eqb _ _ (h .stored));
-    }
 
 module _ {w : World} (h : SoundWorld w) where
   pub world-sound : isSound (w .station) ≡ true
@@ -87,7 +58,7 @@ module _ {w : World} (h : SoundWorld w) where
 
   frame-keeps : (f list : List ℕ) → Framing w f list → SoundWorld (after w (frame f list))
   unfolding after
-  frame-keeps f list (refuses n one nine e two) =
+  frame-keeps f list (refuses n one e) =
       rw e (record { sized = h .sized; sound = h .sound; desks = h .desks; desked = h .desked; stored = h .stored })
   frame-keeps f list (takes t) =
       let k = taken-keeps t in
@@ -102,8 +73,7 @@ module _ {w : World} (h : SoundWorld w) where
 
   goes-keeps : (k : ℕ) {rs : List Reason} {r : Answered} → Goes (w .station) k (slotSays (w .station) k rs) r
       → SoundWorld (record { station = r .station; desks = w .desks; store = w .store })
-  goes-keeps k {r = r} g =
-      ready-sound (record { station = r .station; desks = w .desks; store = w .store }) (goes-ready k g (w .desks) (w .store) (sound-ready w h))
+  goes-keeps k g = goes-ready k g (w .desks) (w .store) h
 
   pub after-sound : (c : Call) → SoundWorld (after w c)
   unfolding after
@@ -112,15 +82,16 @@ module _ {w : World} (h : SoundWorld w) where
   after-sound (release k) = goes-keeps k (release-outcome (w .station) k)
   after-sound (drop k) = goes-keeps k (drop-outcome (w .station) k)
 
-  frame-never-2 : (f list : List ℕ) → Framing w f list → answer w (frame f list) ≡ 2 → ⊥
-  unfolding answer
-  frame-never-2 f list (refuses n one nine e two) q =
-      true≢false (sym (and-both world-sound world-desks) ∙ two (sym (ap (λ r. r .answer) e) ∙ q))
-  frame-never-2 f list (takes t) q = omega (arith, ap (λ r. r .answer) (t .gives))
+  frame-few : (f list : List ℕ) → Framing w f list → frameIn w f list .events ≤ 300
+  frame-few f list (refuses n one e) = omega (arith, ap (λ (r : FrameOutcome). r .events) e)
+  frame-few f list (takes t) = omega (arith, ap (λ (r : FrameOutcome). r .events) (t .gives), taken-keeps t .few)
+
+  pub few-events : FewEvents w
+  few-events f list = frame-few f list (framing w f list)
 
   pub answered-not-2 : (c : Call) → answer w c ≡ 2 → ⊥
   unfolding answer
-  answered-not-2 (frame f list) = frame-never-2 f list (framing w f list)
+  answered-not-2 (frame f list) = frame-never-2 (w .station) 0 world-sound (w .desks) (w .store) list f world-desks
   answered-not-2 (read k offset buffer) = read-never-2 (w .station) k world-sound (w .store) offset buffer
   answered-not-2 (release k) = release-never-2 (w .station) k world-sound
   answered-not-2 (drop k) = drop-never-2 (w .station) k world-sound
@@ -131,10 +102,14 @@ run-sound h [] = h
 run-sound h (c ∷ cs) = run-sound (after-sound h c) cs
 
 pub fresh-sound : (x : Start) → SoundWorld (fresh x)
-fresh-sound x = ready-sound (fresh x) (setUp-ready (x .spacecraft) (x .channels) (x .desks) (x .store) (x .good))
+fresh-sound x = setUp-ready (x .spacecraft) (x .channels) (x .desks) (x .store) (x .good)
 
 -- "From a set-up answered by 0, with state and memory handed back untouched after every call, no call is answered by 2."
 pub every-sound : EveryRun NeverUnsound
 every-sound x cs =
     let h = run-sound (fresh-sound x) cs in
     record { sound = h; never-2 = answered-not-2 h }
+
+-- "no frame produces more than 300"
+pub every-few : EveryRun FewEvents
+every-few x cs = few-events (run-sound (fresh-sound x) cs)

@@ -11,7 +11,7 @@ use borrow.Author.Tests.{eq-eqb, ne-eqb, eqb-true, eqb-false}
 use lib.Dec.{eqb, leb}
 use Rattle.octets.specs.Choice.{if_then_else_, Decides}
 use Rattle.octets.proofs.Lists.{if-true, if-false, if-cases}
-use Rattle.octets.proofs.Decide.{told-true, tells, decides-same}
+use Rattle.octets.proofs.Decide.{told-true, tells, decides-same, decides-self, decides-leb, decides-eqb, _and_, decides-or, decides-not}
 use Rattle.crc.specs.Crc.{crcOf}
 use Rattle.frame.specs.declared.Channel.{Channel}
 use Rattle.packet.specs.declared.Packet.{Packet}
@@ -20,30 +20,30 @@ use Rattle.state.specs.declared.Slot.{Slot}
 use Rattle.state.specs.declared.Station.{Station}
 use Rattle.state.specs.Slots.{slotAt, noFile, held, incomplete, ofPair}
 use Rattle.state.specs.Sound.{Sized, Sound}
-use Rattle.state.proofs.Each.{decides-self, decides-leb, decides-eqb, _and_, decides-or, decides-not}
 use Rattle.room.specs.declared.Found.the-variants.{At}
 use Rattle.room.specs.Find.{fileOf}
 use Rattle.room.proofs.Find.{same-pair, file-at, file-only}
 use Rattle.room.proofs.Keeps.{refiled-slot, refiled-slots, letGo-refiles}
-use Rattle.judge.specs.Event.{Event, at}
-use Rattle.judge.specs.Judge.{Judged, dataOf, checkOf, nextSlot, goesOn, judged}
-use Rattle.judge.proofs.Parts.{openEvents, nextKind, Starting, Undamaged}
+use Rattle.judge.specs.Event.{Event, at, Among}
+use Rattle.judge.specs.Judge.{Judged, dataOf, checkOf, nextSlot, startsFile, goesOn, judged}
+use Rattle.judge.specs.Packets.{Undamaged, Starting}
+use Rattle.judge.proofs.Parts.{openEvents, nextKind}
 use Rattle.judge.proofs.Steps.{about, eventsOf, Unchanged, Opened, Ending, GoneOn, Step, judged-slot}
 use Rattle.judge.proofs.Steps.Step.{same, ended, begun, begun-over, gone-on}
-use Rattle.judge.proofs.Exact.{Among, Given, GoesOn, given-exactly, abandoned-exactly}
+use Rattle.judge.proofs.Exact.{Given, GoesOn, given-exactly, abandoned-exactly}
 use Rattle.judge.proofs.Exact.Given.{accepted, completed}
 use Rattle.history.specs.Things.{Thing, did}
 use Rattle.history.specs.Things.Thing.{packet, left, gone}
-use Rattle.history.specs.Follow.{concerns, starts, ends, adds, fate}
+use Rattle.history.specs.Follow.{concerns, ends, adds, fate}
 use Rattle.history.specs.Follow.Fate.{Still, Ended}
 use Rattle.history.specs.Ledger.{Page, told, noted, notedBy}
 use Rattle.history.proofs.Moments.{Settled}
 
 -- the tests of a slot and a packet, in the words of the laws of a packet
-starts-exactly : (p : List ℕ) → Decides (Starting (packetOf p)) (starts p)
+pub starts-exactly : (p : List ℕ) → Decides (Starting (packetOf p)) (startsFile (packetOf p))
 starts-exactly p = decides-or (decides-eqb (packetOf p .flags) 1) (decides-eqb (packetOf p .flags) 3)
 
-false-unless : (b : Bool) → (b ≡ true → ⊥) → b ≡ false
+pub false-unless : (b : Bool) → (b ≡ true → ⊥) → b ≡ false
 false-unless true f = absurd (f refl)
 false-unless false f = refl
 

@@ -10,7 +10,7 @@ use Rattle.frame.specs.declared.Channel.{Channel}
 use Rattle.packet.specs.Header.{packetOf}
 use Rattle.state.specs.declared.Slot.{Slot}
 use Rattle.state.specs.Slots.{incomplete, ofPair}
-use Rattle.judge.specs.Judge.{dataOf, checkOf, nextSlot, goesOn}
+use Rattle.judge.specs.Judge.{dataOf, checkOf, nextSlot, startsFile, goesOn}
 use Rattle.history.specs.Things.{Thing}
 use Rattle.history.specs.Things.Thing.{packet, left, gone}
 
@@ -19,17 +19,13 @@ unfoldable pub concerns : Slot → Channel → List ℕ → Bool
 concerns x c p =
     incomplete x && ofPair c (packetOf p .application) x && leb (packetOf p .application .0) 2015 && eqb (crcOf (dataOf p)) (checkOf p)
 
--- "Flags 1 (first) or 3 (whole)"
-abbrev pub starts : List ℕ → Bool
-starts p = eqb (packetOf p .flags) 1 || eqb (packetOf p .flags) 3
-
 -- event 6: the packet starts another file of the pair, or does not go on with this one
 unfoldable pub ends : Slot → Channel → List ℕ → Bool
-ends x c p = concerns x c p && (starts p || not (goesOn x (packetOf p) (dataOf p)))
+ends x c p = concerns x c p && (startsFile (packetOf p) || not (goesOn x (packetOf p) (dataOf p)))
 
 -- event 11 or 12: the packet is the next, in order and of the right shape
 unfoldable pub adds : Slot → Channel → List ℕ → Bool
-adds x c p = concerns x c p && not (starts p) && goesOn x (packetOf p) (dataOf p)
+adds x c p = concerns x c p && not (startsFile (packetOf p)) && goesOn x (packetOf p) (dataOf p)
 
 -- a file is still there, as its slot says, or has come to its end
 pub data Fate : Type 0 where

@@ -3,4 +3,9 @@ pub mod Run
 pub mod Things
 pub mod Follow
 pub mod Ledger
+pub mod Calls
+pub mod Files
+pub mod Store
 pub mod Demands
+pub mod Sent
+pub mod Guards

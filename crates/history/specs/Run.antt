@@ -1,13 +1,12 @@
 -- Every sequence of calls from a good set-up, "with state and memory handed back untouched". Assumes nothing.
 use mathlib.Core.Path.{_≡_}
 use mathlib.Core.List.{List, [], _∷_}
-use Prim.Native.Nat.{ℕ, _*_}
-use lib.ListN.{length}
+use Prim.Native.Nat.{ℕ}
 use Rattle.state.specs.declared.Station.{Station}
-use Rattle.state.specs.Sound.{Sized, Sound, DesksSound}
 use Rattle.station.specs.SetUp.{setUp}
 use Rattle.station.specs.Frame.{FrameOutcome, framed}
 use Rattle.station.specs.Files.{released, dropped, readOut}
+use Rattle.station.specs.Answers.{Ready}
 
 -- the station, and the memory that its caller lends it again and again
 pub record World : Type 0 where
@@ -65,10 +64,6 @@ fresh x =
       store = x .store;
     }
 
--- the whole of soundness, the desks' part too, and memory of the right size
-pub record SoundWorld (w : World) : Type 0 where
-  pub sized : Sized (w .station)
-  pub sound : Sound (w .station)
-  pub desks : DesksSound (w .station) (w .desks)
-  pub desked : length (w .desks) ≡ 8198 * w .station .channels
-  pub stored : length (w .store) ≡ 8190 * w .station .blocks
+-- a sound state with its memory
+abbrev pub SoundWorld : World → Type 0
+SoundWorld w = Ready (w .station) (w .desks) (w .store)

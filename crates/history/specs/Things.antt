@@ -1,7 +1,6 @@
 -- What happens to a station, one thing after the other: the packets that a frame brings, the desk that it leaves, and the files that the
 -- user lets go. A run of calls is a list of such things (proofs/Moments.antt), so what holds of each of them holds of every run.
 -- Assumes nothing.
-use mathlib.Core.Bool.{true}
 use mathlib.Core.List.{List, [], _∷_, _++_, map}
 use Prim.Native.Nat.{ℕ}
 use lib.Dec.{eqb}
@@ -19,7 +18,7 @@ use Rattle.room.specs.Move.{letGo}
 use Rattle.judge.specs.Event.{Event}
 use Rattle.judge.specs.Judge.{Judged, gives, after, judged}
 use Rattle.zone.specs.Zone.{Split, split}
-use Rattle.zone.specs.Walk.{readingOf, withDesk, walked}
+use Rattle.zone.specs.Walk.{readingOf, withDesk, deskAfter, walked}
 use Rattle.station.specs.Frame.{channelAt}
 use Rattle.history.specs.Run as run
 use Rattle.history.specs.Run.{World, Call, answer}
@@ -58,7 +57,7 @@ abbrev pub framedThings : World → List ℕ → Examined → List Thing
 framedThings w f (Refused n) = []
 framedThings w f (Good a) =
     map (packet (channelAt (w .station) (a .desk))) (splitIn w f a .packets)
-    ++ (left (a .desk) (record { held = length (splitIn w f a .left); seen = true; counter = a .counter }) ∷ [])
+    ++ (left (a .desk) (deskAfter a (length (splitIn w f a .left))) ∷ [])
 
 -- the things of a call: none, if it is refused
 unfoldable pub things : World → Call → List Thing

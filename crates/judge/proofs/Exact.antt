@@ -2,7 +2,7 @@
 use mathlib.Core.Path.{_≡_, refl, sym, subst}
 use mathlib.Core.Bool.{Bool, true, false}
 use mathlib.Core.Logic.{inl, inr, ⊎-elim, _↔_}
-use mathlib.Core.List.{List, [], _∷_, List·Memᴰ, List·Memᴰ·not-nil, List·Memᴰ·cases-cons, Memᴰ·cast}
+use mathlib.Core.List.{List, [], _∷_, List·Memᴰ·not-nil, List·Memᴰ·cases-cons, Memᴰ·cast}
 use mathlib.Core.List.List·Memᴰ.{List·Memᴰ·head, List·Memᴰ·tail}
 use Prim.Native.Nat.{ℕ, _≤_, _<_}
 use borrow.Author.Tests.{eqb-true, eqb-false}
@@ -21,8 +21,9 @@ use Rattle.state.specs.Blocks.{room}
 use Rattle.room.specs.declared.Found.{Found}
 use Rattle.room.specs.declared.Found.the-variants.{At, Nothing}
 use Rattle.room.specs.Find.{freeSlot, fileOf}
-use Rattle.judge.specs.Event.{Event, of, at}
+use Rattle.judge.specs.Event.{Event, of, at, Among}
 use Rattle.judge.specs.Judge.{Judged, dataOf, checkOf, begins, goesOn, judged}
+use Rattle.judge.specs.Packets.{Undamaged, Starting, Starts}
 use Rattle.judge.proofs.Parts.{
   opens-as,
   opens-whole,
@@ -40,9 +41,7 @@ use Rattle.judge.proofs.Parts.{
   judged-damaged,
   judged-starts,
   judged-later,
-  Starting,
   starting,
-  Undamaged,
   Begins,
   Judges,
   judges-as,
@@ -50,12 +49,6 @@ use Rattle.judge.proofs.Parts.{
 use Rattle.judge.proofs.Parts.Begins.{wrong-shape, no-slot, no-room, opens-at}
 use Rattle.judge.proofs.Parts.Judges.{fill, other, damaged, begins-new, begins-over, stray, goes-on, breaks-off}
 use Rattle.judge.proofs.Steps.{rid, Ending}
-
--- a packet of a file, whole and right, that begins one: what is left to ask is whether there is a slot, and room
-pub record Starts (p : List ℕ) (t : Transport) : Type 0 where
-  pub undamaged : Undamaged p
-  pub starting : Starting (packetOf p)
-  pub right : begunOf (packetOf p .flags) (dataOf p) ≡ Right t
 
 -- the state that is asked: an older file of the pair is ended before
 abbrev pub cleared : Channel → Station → List ℕ → Station
@@ -86,9 +79,6 @@ pub data Given (c : Channel) (s : Station) (p : List ℕ) : ℕ → ℕ → Type
 pub record Reasoned (c : Channel) (s : Station) (p : List ℕ) (e : Event) : Type 0 where
   pub application : e .application ≡ packetOf p .application .0
   pub reason : Given c s p (e .kind) (e .slot)
-
-abbrev pub Among : Event → List Event → Type 0
-Among e es = List·Memᴰ e es
 
 -- what is given has its reason
 module _ {c : Channel} {s : Station} {p : List ℕ} where

@@ -9,7 +9,7 @@ use native.Mathlib.Omega.{arith}
 use lib.Dec.{eqb}
 use lib.ListN.{length}
 use denote.Enum.Declared.{tagOf}
-use Rattle.octets.proofs.Decide.{told-true, told-false}
+use Rattle.octets.proofs.Decide.{told-true, told-false, decides-eqb, decides-or}
 use Rattle.frame.specs.declared.Channel.{Channel}
 use Rattle.packet.specs.declared.Application.{Application}
 use Rattle.packet.specs.declared.Packet.{Packet}
@@ -19,7 +19,6 @@ use Rattle.transport.specs.declared.Begun.{Begun}
 use Rattle.transport.specs.declared.Begun.the-variants.{Wrong, Right}
 use Rattle.transport.proofs.Begun as begun
 use Rattle.state.specs.declared.Station.{Station}
-use Rattle.state.proofs.Each.{decides-eqb, decides-or}
 use Rattle.room.specs.declared.Found.{Found}
 use Rattle.room.specs.declared.Found.the-variants.{At, Nothing}
 use Rattle.room.specs.Find.{freeFrom, freeSlot, fileFrom, fileOf}

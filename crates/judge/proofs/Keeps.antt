@@ -9,6 +9,7 @@ use lib.Dec.{eqb}
 use lib.ListN.{length, getD, take, drop, length-set}
 use Rattle.octets.proofs.Numbers.{bitsAt-below}
 use Rattle.octets.proofs.Put.{length-put}
+use Rattle.octets.proofs.Tests.{and-left, and-right}
 use Rattle.frame.specs.declared.Channel.{Channel}
 use Rattle.packet.specs.declared.Application.{Application}
 use Rattle.packet.specs.declared.Packet.{Packet}
@@ -22,7 +23,6 @@ use Rattle.state.specs.declared.Station.{Station}
 use Rattle.state.specs.Slots.{slotAt, held, incomplete, needOf, ofPair}
 use Rattle.state.specs.Blocks.{blocksOf, room}
 use Rattle.state.specs.Sound.{Sized, Sound, DesksSound}
-use Rattle.state.proofs.Each.{and-left, and-right}
 use Rattle.room.specs.declared.Found.the-variants.{At, Nothing}
 use Rattle.room.specs.Find.{freeSlot, fileOf}
 use Rattle.room.specs.Move.{opened}

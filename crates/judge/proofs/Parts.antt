@@ -13,7 +13,7 @@ use Rattle.octets.specs.Choice.{if_then_else_, Decides}
 use Rattle.octets.specs.Choice.Decides.{fails}
 use Rattle.octets.specs.Number.{part}
 use Rattle.octets.proofs.Lists.{if-cases, whole-part}
-use Rattle.octets.proofs.Decide.{told-true, decides-of, decides-same}
+use Rattle.octets.proofs.Decide.{told-true, decides-of, decides-same, decides-eqb, decides-leb, decides-not, _and_}
 use Rattle.crc.specs.Crc.{crcOf}
 use Rattle.frame.specs.declared.Channel.{Channel}
 use Rattle.packet.specs.declared.Packet.{Packet}
@@ -31,13 +31,13 @@ use Rattle.state.specs.declared.Slot.{Slot}
 use Rattle.state.specs.declared.Station.{Station}
 use Rattle.state.specs.Slots.{slotAt, needOf}
 use Rattle.state.specs.Blocks.{room}
-use Rattle.state.proofs.Each.{decides-eqb, decides-leb, decides-not, _and_}
 use Rattle.room.specs.declared.Found.{Found}
 use Rattle.room.specs.declared.Found.the-variants.{At, Nothing}
 use Rattle.room.specs.Find.{freeSlot, fileOf}
 use Rattle.room.specs.Move.{withFile, opened, letGo}
 use Rattle.judge.specs.Event.{Event, of, at}
 use Rattle.judge.specs.Judge.{Judged, gives, after, dataOf, checkOf, written, firstSlot, nextSlot, opens, placed, begins, starts, goesOn, continues, filed, judgedAs, judged}
+use Rattle.judge.specs.Packets.{Undamaged, Starting, Following}
 use Rattle.judge.specs.Contract.{Whole}
 
 -- "event 10, and for a whole file event 12 after it"
@@ -122,10 +122,6 @@ module _ (s : Station) (store : List ℕ) (h : Packet) (d : List ℕ) {f : Found
           (at 12 (h .application .0) k ∷ [])
       continues-last l = continues-as ∙ rw (eq-eqb (h .flags) 2 l)
 
--- the packet begins a file: it is a first one or a whole one
-abbrev pub Starting : Packet → Type 0
-Starting h = (h .flags ≡ 1) ⊎ (h .flags ≡ 3)
-
 module _ (c : Channel) (s : Station) (store : List ℕ) (h : Packet) (d : List ℕ) where
   pub filed-starts : Starting h → filed c s store h d ≡ starts c s store h d (fileOf s c (h .application))
   unfolding filed
@@ -171,11 +167,6 @@ pub data Begins (c : Channel) (s : Station) (store : List ℕ) (h : Packet) (d :
   opens-at : {t : Transport} {k : ℕ} → begunOf (h .flags) d ≡ Right t → freeSlot s ≡ At k → need (t .bits) ≤ room s
       → Begins c s store h d
       (gives (opened s k (firstSlot c h t)) (written (opened s k (firstSlot c h t)) k 0 d store) (openEvents h k))
-
--- a packet of a file, whose check is right
-pub record Undamaged (p : List ℕ) : Type 0 where
-  pub file : packetOf p .application .0 ≤ 2015
-  pub intact : eqb (crcOf (dataOf p)) (checkOf p) ≡ true
 
 -- what becomes of a whole packet: every case, with what is known in it
 pub data Judges (c : Channel) (s : Station) (store p : List ℕ) : Judged → Type 0 where
@@ -362,15 +353,6 @@ right-begun flags d {t} r =
     (⊎-elim (λ (one, size, two). rw (one, size, le-leb 2 (need (t .bits)) two))
     (λ (three, size, only). rw (three, eq-eqb (length d) (transportSize (t .bits)) size, only))
     (r .shape)))
-
--- "With one, the count must follow the last modulo 16,384; a middle packet has 8,190 octets and isn't the Nth; a last one is the Nth with
--- exactly the rest."
-pub record Following (x : Slot) (h : Packet) (d : List ℕ) : Type 0 where
-  pub count : h .count .0 ≡ nextCount (x .count) .0
-  pub shape :
-      ((h .flags ≡ 0) × (length d ≡ 8190) × (x .accepted + 1 ≡ needOf x → ⊥))
-      ⊎ ((h .flags ≡ 2) × (x .accepted + 1 ≡ needOf x) × (length d ≡ rest (x .bits)))
-  pub few : length d ≤ 8190
 
 module _ (x : Slot) (h : Packet) (d : List ℕ) where
   middle-fits : h .flags ≡ 0 → goesOn x h d ≡ middleFits (length d) (x .bits) (x .accepted) (x .count) (h .count)

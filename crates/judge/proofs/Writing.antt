@@ -1,12 +1,11 @@
--- Three stores as one run, and where a packet's data is written: in a block that the slot has. Assumes nothing.
+-- Where a packet's data is written: in a block that the slot has. Assumes nothing.
 use mathlib.Core.Path.{_≡_}
 use mathlib.Core.Bool.{false}
-use mathlib.Core.List.{List, [], _∷_}
-use Prim.Native.Nat.{ℕ, suc, _+_, _*_, _≤_, _<_}
-use native.Mathlib.Numerals.{add-one, towards-suc}
+use mathlib.Core.List.{List}
+use Prim.Native.Nat.{ℕ, suc, _+_, _≤_, _<_}
+use native.Mathlib.Numerals.{add-one}
 use native.Mathlib.Omega.{arith}
-use lib.ListN.{length, getD, set, take, length-take}
-use Rattle.octets.specs.Buffer.{put}
+use lib.ListN.{length, getD, take, length-take}
 use Rattle.state.specs.declared.Slot.{Slot}
 use Rattle.state.specs.declared.Station.{Station}
 use Rattle.state.specs.Slots.{slotAt, held, needOf}
@@ -16,10 +15,6 @@ use Rattle.state.proofs.Blocks.{entry-low}
 use Rattle.room.specs.Move.{opened}
 use Rattle.room.proofs.Keeps.{opened-refiles, opened-count}
 use Rattle.judge.proofs.Keeps.{Stays, stays-refiled}
-
-pub put-three : (xs : List ℕ) (n a b c : ℕ) → set (set (set xs n a) (n + 1) b) (n + 2) c ≡ put xs n (a ∷ b ∷ c ∷ [])
-unfolding put
-put-three xs n a b c = simp towards-suc
 
 -- the block at a place that slot k has, as the code finds it, is one of the n of the store
 module _ (owner : List ℕ) (n k place : ℕ) {b : ℕ} (found : b ≡ getD (numbersOf (k + 1) 0 (take n owner)) place 0) where

@@ -1,5 +1,5 @@
 -- "three to an event: kind, application, slot". Assumes nothing.
-use mathlib.Core.List.{List, [], _∷_, flatMap}
+use mathlib.Core.List.{List, [], _∷_, flatMap, List·Memᴰ}
 use Prim.Native.Nat.{ℕ}
 
 pub record Event : Type 0 where
@@ -21,6 +21,10 @@ at n a k = record { kind = n; application = a; slot = k }
 
 abbrev pub numbers : Event → List ℕ
 numbers e = e .kind ∷ e .application ∷ e .slot ∷ []
+
+-- an event is one of some
+abbrev pub Among : Event → List Event → Type 0
+Among e es = List·Memᴰ e es
 
 -- the events as the list holds them
 unfoldable pub flat : List Event → List ℕ

@@ -1,9 +1,9 @@
 -- What one whole packet does to slots, blocks and store, and the events that it gives ("Packets"). Assumes nothing.
-use mathlib.Core.Bool.{Bool, not, _&&_, _||_}
+use mathlib.Core.Bool.{Bool, _||_}
 use mathlib.Core.List.{List, [], _∷_, _++_}
 use Prim.Native.Nat.{ℕ, _+_, _-_, _*_}
 use lib.Dec.{ltb, eqb}
-use lib.ListN.{length, getD, set}
+use lib.ListN.{length, getD}
 use Rattle.octets.specs.Choice.{if_then_else_}
 use Rattle.octets.specs.Number.{part, numberAt}
 use Rattle.octets.specs.Buffer.{put}
@@ -98,10 +98,14 @@ continues s store h d (At k) =
     then gives (withFile s (s .owner) k (nextSlot x h)) (written s k (x .accepted) d store) (at (if eqb (h .flags) 2 then 12 else 11) a k ∷ [])
     else gives (letGo s k) store (at 6 a k ∷ [])
 
+-- "Flags 1 (first) or 3 (whole)"
+abbrev pub startsFile : Packet → Bool
+startsFile h = eqb (h .flags) 1 || eqb (h .flags) 3
+
 -- "Then, for the file of this channel and application"
 unfoldable pub filed : Channel → Station → List ℕ → Packet → List ℕ → Judged
 filed c s store h d =
-    if eqb (h .flags) 1 || eqb (h .flags) 3
+    if startsFile h
     then starts c s store h d (fileOf s c (h .application))
     else continues s store h d (fileOf s c (h .application))
 

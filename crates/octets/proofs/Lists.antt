@@ -3,10 +3,10 @@ use mathlib.Core.Path.{_≡_, refl, sym, ap, _∙_}
 use mathlib.Core.Bool.{Bool, true, false}
 use mathlib.Core.List.{List, [], _∷_, _++_, map}
 use Prim.Native.Nat.{ℕ, zero, suc, _+_, _-_, _<_, _≤_}
-use native.Mathlib.Nat.{zero-add, suc-add}
+use native.Mathlib.Nat.{zero-add, suc-add, sub-zero}
 use native.Mathlib.Omega.{arith}
-use lib.ListN.{length, take, drop, getD, length-map, length-drop, take-append-drop}
-use lib.Seq.{length-take-le, take-all, getD-take, getD-drop, take-take, take-add, take-nil, drop-drop}
+use lib.ListN.{length, take, drop, getD, replicate, length-map, length-drop, take-append-drop}
+use lib.Seq.{length-take-le, take-all, getD-take, getD-drop, take-take, take-add, take-nil, drop-drop, take-append-le, drop-append-le, drop-append-add}
 use Rattle.octets.specs.Choice.{if_then_else_}
 use Rattle.octets.specs.Number.{part}
 
@@ -48,6 +48,57 @@ module _ {A : Type 0} where
   -- two parts after each other
   pub part-add : (xs : List A) (at m n : ℕ) → part at (m + n) xs ≡ part at m xs ++ part (at + m) n xs
   part-add xs at m n = take-add m n (drop at xs) ∙ ap (λ (ys : List A). part at m xs ++ take n ys) (drop-drop m at xs)
+
+-- a part of two lists joined: of the first alone, of the second alone, and from where they meet
+module _ {A : Type 0} (xs ys : List A) where
+  pub part-left : (at n : ℕ) → at + n ≤ length xs → part at n (xs ++ ys) ≡ part at n xs
+  part-left at n h =
+      ap (take n) (drop-append-le at xs ys (omega arith)) ∙ take-append-le n (drop at xs) ys (omega (arith, length-drop at xs))
+
+  pub part-right : (at n : ℕ) → length xs ≤ at → part at n (xs ++ ys) ≡ part (at - length xs) n ys
+  part-right at n h =
+      let k : at ≡ length xs + (at - length xs) = omega arith in
+      ap (λ (i : ℕ). part i n (xs ++ ys)) k ∙ ap (take n) (drop-append-add xs ys (at - length xs))
+
+  pub part-seam : (at n : ℕ) → (0 < n → at ≡ length xs) → part at n (xs ++ ys) ≡ part 0 n ys
+  part-seam at zero f = refl
+  part-seam at (suc n) f =
+      let e = f (omega arith) in
+      let z : at - length xs ≡ 0 = omega arith in
+      part-right at (suc n) (omega arith) ∙ ap (λ (i : ℕ). part i (suc n) ys) z
+
+pub take-map : {A B : Type 0} (f : A → B) (n : ℕ) (xs : List A) → take n (map f xs) ≡ map f (take n xs)
+take-map f zero xs = refl
+take-map f (suc n) [] = refl
+take-map f (suc n) (x ∷ xs) = ap (λ (ys : List _). f x ∷ ys) (take-map f n xs)
+
+pub drop-replicate : {A : Type 0} (m n : ℕ) (v : A) → drop m (replicate n v) ≡ replicate (n - m) v
+drop-replicate zero n v = rw sub-zero
+drop-replicate (suc m) zero v =
+    let k : 0 - suc m ≡ 0 = omega arith in
+    rw k
+drop-replicate (suc m) (suc n) v =
+    let k : suc n - suc m ≡ n - m = omega arith in
+    rw k (drop-replicate m n v)
+
+-- a list with nothing in it but one value
+module _ {A : Type 0} (x : A) where
+  abbrev pub Only : List A → Type 0
+  Only xs = (i : ℕ) → getD xs i x ≡ x
+
+  pub only-replicate : (n : ℕ) → Only (replicate n x)
+  only-replicate zero i = refl
+  only-replicate (suc n) zero = refl
+  only-replicate (suc n) (suc i) = only-replicate n i
+
+  pub only-drop : (n : ℕ) (xs : List A) → Only xs → Only (drop n xs)
+  only-drop n xs f i = getD-drop n xs i x ∙ f (n + i)
+
+  pub only-take : (n : ℕ) (xs : List A) → Only xs → Only (take n xs)
+  only-take zero xs f i = refl
+  only-take (suc n) [] f i = refl
+  only-take (suc n) (y ∷ xs) f zero = f 0
+  only-take (suc n) (y ∷ xs) f (suc i) = only-take n xs (λ j. f (suc j)) i
 
 -- choices, by the test's answer
 module _ {A : Type 0} (x y : A) {b : Bool} where

@@ -4,14 +4,15 @@ use mathlib.Core.List.{List, [], _∷_, _++_, append-nil}
 use mathlib.Core.Logic.{_⊎_, inl, inr, ⊎-elim}
 use Prim.Native.Nat.{ℕ, zero, suc, _+_, _-_, _<_, _≤_}
 use native.Mathlib.Nat.{add-zero, add-suc, suc-add, le-of-suc-le-suc, not-suc-le-zero}
-use native.Mathlib.Numerals.{add-one}
+use native.Mathlib.Decide.{ℕ-discrete}
+use native.Mathlib.Numerals.{add-one, towards-suc}
 use native.Mathlib.Omega.{arith}
 use borrow.Rule.Slice.PartMut.{putMid, midOf, put-same}
 use lib.ListN.{length, take, drop, set, getD, replicate, length-set, drop-of-length-le}
-use lib.Seq.{sets, sets-eq, length-sets, drop-cons, take-set-le, take-set-lt, drop-set-lt, drop-set-add, getD-set-same, getD-set-other}
+use lib.Seq.{sets, sets-eq, length-sets, drop-cons, take-set-le, take-set-lt, drop-set-lt, drop-set-add, getD-set-same, getD-set-other, set-set, set-comm}
 use Rattle.octets.specs.Number.{part}
 use Rattle.octets.specs.Buffer.{put}
-use Rattle.octets.proofs.Lists.{whole-part}
+use Rattle.octets.proofs.Lists.{whole-part, three-parts}
 
 pub put-nil : (xs : List ℕ) (at : ℕ) → put xs at [] ≡ xs
 unfolding put
@@ -145,3 +146,47 @@ put-part es a k at xs h =
     ∙ ap₂ (λ (f b : List ℕ). f ++ (part a k (put xs (a + at) es) ++ b)) (sym (take-put-before es xs (a + at) a (omega arith)))
     (sym (ap (drop k) (drop-put es xs a at) ∙ drop-put-after es (drop a xs) at k h))
     ∙ put-same a k (put xs (a + at) es)
+
+-- a store before a run of stores behind it
+set-before : (es xs : List ℕ) (a b v : ℕ) → a < b → set (put xs b es) a v ≡ put (set xs a v) b es
+unfolding put
+set-before [] xs a b v l = refl
+set-before (e ∷ es) xs a b v l =
+    set-before es (set xs b e) a (suc b) v (omega arith) ∙ ap (λ (ys : List ℕ). sets ys (suc b) es) (set-comm xs b a e v (λ q. omega arith))
+
+-- a run of stores over the front of another
+pub put-front : (fs es xs : List ℕ) (a : ℕ) → length fs ≤ length es → put (put xs a es) a fs ≡ put xs a (fs ++ drop (length fs) es)
+unfolding put
+put-front [] es xs a l = refl
+put-front (f ∷ fs) [] xs a l = absurd (omega arith)
+put-front (f ∷ fs) (e ∷ es) xs a l =
+    ap (λ (ys : List ℕ). sets ys (suc a) fs)
+    (set-before es (set xs a e) a (suc a) f (omega arith) ∙ ap (λ (ys : List ℕ). sets ys (suc a) es) (set-set xs a e f))
+    ∙ put-front fs es (set xs a f) (suc a) (omega arith)
+
+-- a run of stores all over another
+set-under : (fs xs : List ℕ) (a b v : ℕ) → a ≤ b → b < a + length fs → put (set xs b v) a fs ≡ put xs a fs
+unfolding put
+set-under [] xs a b v l m = absurd (omega arith)
+set-under (f ∷ fs) xs a b v l m =
+    elim (ℕ-discrete b a) [
+      | yes e ↦ ap (λ (ys : List ℕ). sets ys (suc a) fs) (rw e (set-set xs a v f))
+      | no n ↦ ap (λ (ys : List ℕ). sets ys (suc a) fs) (set-comm xs b a v f n) ∙ set-under fs (set xs a f) (suc a) b v (omega arith) (omega arith)
+    ]
+
+pub put-under : (es fs xs : List ℕ) (a b : ℕ) → a ≤ b → b + length es ≤ a + length fs → put (put xs b es) a fs ≡ put xs a fs
+unfolding put
+put-under [] fs xs a b l m = refl
+put-under (e ∷ es) fs xs a b l m =
+    put-under es fs (set xs b e) a (suc b) (omega arith) (omega arith) ∙ set-under fs xs a b e l (omega arith)
+
+-- what stands there already
+pub put-again : (xs : List ℕ) (a n : ℕ) → a + n ≤ length xs → put xs a (part a n xs) ≡ xs
+put-again xs a n l =
+    let k = whole-part xs a n l in
+    put-parts xs a (part a n xs) (omega arith) ∙ ap (λ (m : ℕ). take a xs ++ part a n xs ++ drop (a + m) xs) k ∙ three-parts xs a n
+
+-- three stores as one run
+pub put-three : (xs : List ℕ) (n a b c : ℕ) → set (set (set xs n a) (n + 1) b) (n + 2) c ≡ put xs n (a ∷ b ∷ c ∷ [])
+unfolding put
+put-three xs n a b c = simp towards-suc

@@ -3,3 +3,4 @@ pub mod Choice
 pub mod Number
 pub mod Buffer
 pub mod Each
+pub mod Reasons

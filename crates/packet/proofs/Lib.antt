@@ -1,4 +1,4 @@
--- Laws of the packet that the crates above cite, and how a test's outcome is found.
+-- Laws of the packet that the crates above cite.
 pub mod Tests
 pub mod Tags
 pub mod Fields

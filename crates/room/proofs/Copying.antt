@@ -1,38 +1,19 @@
 -- The octets of blocks one after the other, and the loop that copies a part of them into a buffer. Assumes nothing.
 use mathlib.Core.Path.{_≡_, refl, sym, ap, _∙_}
 use mathlib.Core.List.{List, [], _∷_, _++_, flatMap}
-use Prim.Native.Nat.{ℕ, zero, suc, min, _+_, _-_, _*_, _≤_, _<_}
+use Prim.Native.Nat.{ℕ, min, _+_, _-_, _*_, _≤_, _<_}
 use native.Mathlib.Nat.{sub-zero}
 use native.Mathlib.Decide.{decLt}
 use native.Mathlib.Omega.{arith}
-use lib.ListN.{length, getD, take, drop, length-append, length-drop}
-use lib.Seq.{take-append-le, drop-append-le, drop-append-add}
+use lib.ListN.{length, getD, take, length-append}
 use Rattle.octets.specs.Number.{part}
 use Rattle.octets.specs.Buffer.{put}
-use Rattle.octets.proofs.Lists.{whole-part, part-part, part-add}
+use Rattle.octets.proofs.Below.{Below, below-tail}
+use Rattle.octets.proofs.Lists.{whole-part, part-part, part-add, part-left, part-right, part-seam}
 use Rattle.octets.proofs.Put.{put-nil, put-put, put-whole, length-put}
 use Rattle.state.specs.Blocks.{numbersOf}
-use Rattle.state.proofs.Each.{Below, below-tail}
 use Rattle.room.specs.File.{blockOctets, joined}
 use Rattle.room.proofs.Given.{ahead, ahead-none, ahead-here, ahead-past, numbers-below}
-
--- a part of two lists joined: of the first alone, of the second alone, and from where they meet
-module _ (xs ys : List ℕ) where
-  pub part-left : (at n : ℕ) → at + n ≤ length xs → part at n (xs ++ ys) ≡ part at n xs
-  part-left at n h =
-      ap (take n) (drop-append-le at xs ys (omega arith)) ∙ take-append-le n (drop at xs) ys (omega (arith, length-drop at xs))
-
-  pub part-right : (at n : ℕ) → length xs ≤ at → part at n (xs ++ ys) ≡ part (at - length xs) n ys
-  part-right at n h =
-      let k : at ≡ length xs + (at - length xs) = omega arith in
-      ap (λ (i : ℕ). part i n (xs ++ ys)) k ∙ ap (take n) (drop-append-add xs ys (at - length xs))
-
-  pub part-seam : (at n : ℕ) → (0 < n → at ≡ length xs) → part at n (xs ++ ys) ≡ part 0 n ys
-  part-seam at zero f = refl
-  part-seam at (suc n) f =
-      let e = f (omega arith) in
-      let z : at - length xs ≡ 0 = omega arith in
-      part-right at (suc n) (omega arith) ∙ ap (λ (i : ℕ). part i (suc n) ys) z
 
 -- block b lies in the store
 abbrev pub Stored : List ℕ → ℕ → Type 0

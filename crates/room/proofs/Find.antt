@@ -11,7 +11,9 @@ use lib.Dec.{eqb}
 use lib.ListN.{length, getD, take, drop, drop-of-length-le}
 use lib.Seq.{drop-cons}
 use Rattle.octets.specs.Choice.{if_then_else_}
+use Rattle.octets.proofs.Below.{below-none, below-cons}
 use Rattle.octets.proofs.Lists.{if-true, if-false, if-cases}
+use Rattle.octets.proofs.Tests.{and-left, and-right, and-both}
 use Rattle.frame.specs.declared.Channel.{Channel}
 use Rattle.packet.specs.declared.Application.{Application}
 use Rattle.transport.specs.Length.{need, transportSize, octetsOfBits}
@@ -20,7 +22,6 @@ use Rattle.state.specs.declared.Station.{Station}
 use Rattle.state.specs.Slots.{noFile, slotAt, held, needOf, incomplete, ofPair}
 use Rattle.state.specs.Blocks.{numbersOf, needs}
 use Rattle.state.specs.Sound.{Sized, Sound}
-use Rattle.state.proofs.Each.{and-left, and-right, and-both, below-none, below-cons}
 use Rattle.room.specs.declared.Found.{Found}
 use Rattle.room.specs.declared.Found.the-variants.{At, Nothing}
 use Rattle.room.specs.Find.{freeFrom, freeSlot, fileFrom, fileOf}

@@ -28,12 +28,12 @@ use lib.Seq.{
 }
 use Rattle.octets.specs.Choice.{if_then_else_}
 use Rattle.octets.specs.Number.{part}
+use Rattle.octets.proofs.Below.{Below, below-tail}
 use Rattle.octets.proofs.Lists.{if-cases}
 use Rattle.state.specs.declared.Slot.{Slot}
 use Rattle.state.specs.declared.Station.{Station}
 use Rattle.state.specs.Slots.{noFile, needOf}
 use Rattle.state.specs.Blocks.{numbersOf, table, freeBlocks}
-use Rattle.state.proofs.Each.{Below, below-tail}
 use Rattle.state.proofs.Blocks.{numbers-in, numbers-out, entry-low, numbers-few}
 use Rattle.room.specs.Move.{given, withFile, opened, letGo}
 

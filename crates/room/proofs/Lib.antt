@@ -3,4 +3,3 @@ pub mod Given
 pub mod Find
 pub mod Keeps
 pub mod Copying
-pub mod Fits

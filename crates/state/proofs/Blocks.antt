@@ -11,10 +11,10 @@ use lib.Dec.{eqb}
 use lib.ListN.{length, getD, take, drop, set, replicate, length-append, length-map}
 use lib.Seq.{take-suc, drop-cons, split-at, length-take-le, getD-append-seam}
 use Rattle.octets.specs.Choice.{if_then_else_}
+use Rattle.octets.proofs.Below.{neither, below-cons, below-none}
 use Rattle.octets.proofs.Lists.{if-cases, if-map}
 use Rattle.state.specs.Blocks.{numbersOf}
 use Rattle.state.specs.Decision.{blockCounts}
-use Rattle.state.proofs.Each.{neither, below-cons, below-none}
 
 -- one entry in front
 pub numbers-in : (o i x : ℕ) (t : List ℕ) → x ≡ o → numbersOf o i (x ∷ t) ≡ i ∷ numbersOf o (suc i) t

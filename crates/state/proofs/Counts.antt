@@ -9,8 +9,8 @@ use borrow.Author.Tests.{le-leb, lt-leb}
 use lib.ListN.{length, getD, set, take, replicate}
 use lib.Seq.{length-take-le}
 use Rattle.octets.specs.Each.{each}
+use Rattle.octets.proofs.Each.{each-more}
 use Rattle.state.specs.Decision.{isOwner, blockCounts}
-use Rattle.state.proofs.Each.{each-more}
 use Rattle.state.proofs.Blocks.{more-end, counts-none, counts-few, counts-in, counts-out}
 
 -- what is known after b blocks

@@ -12,9 +12,12 @@ use lib.Seq.{length-take-le, getD-take, getD-drop}
 use Rattle.octets.specs.Choice.{if_then_else_, Decides}
 use Rattle.octets.specs.Choice.Decides.{holds, fails}
 use Rattle.octets.specs.Each.{each}
-use Rattle.octets.proofs.Decide.{decides-same, told-true, told-false, tells}
+use Rattle.octets.proofs.Decide.{decides-same, told-true, told-false, tells, decides-by, decides-self, decides-leb, decides-ltb, decides-eqb, decides-then, _and_, decides-not, decides-if, decides-unless, decides-below, decides-some, decides-apart}
 use Rattle.octets.specs.Buffer.{allZero}
+use Rattle.octets.proofs.Below.{Below, Some, Apart, neither, below-none, below-cons, below-tail, some-none, apart-none, apart-cons, apart-head, apart-tail}
+use Rattle.octets.proofs.Each.{decides-each}
 use Rattle.octets.proofs.Lists.{whole-part}
+use Rattle.octets.proofs.Tests.{and-both, true-unless}
 use Rattle.octets.proofs.Zero.{blank-at}
 use Rattle.packet.specs.declared.Packet.{Packet}
 use Rattle.packet.specs.declared.Look.the-variants.{Bad, Good}
@@ -27,7 +30,6 @@ use Rattle.state.specs.Slots.{slotAt, deskAt, emptyDesk, noFile, held, i
 use Rattle.state.specs.Blocks.{blocksOf, table}
 use Rattle.state.specs.Sound.{Sized, SetUp, HeldSlot, DeskHolds, Sound, OctetsHeld, DesksSound, deskOctets}
 use Rattle.state.specs.Decision.{among, distinctChannels, goodChannels, setUpSound, isOwner, slotSound, blockCounts, slotsSound, twinIn, noTwins, deskHolds, isSound, longer, octetsHeld, desksHeld, areDesksSound}
-use Rattle.state.proofs.Each.{and-both, true-unless, Below, Some, Apart, neither, below-none, below-cons, below-tail, some-none, apart-none, apart-cons, apart-head, apart-tail, decides-by, decides-self, decides-leb, decides-ltb, decides-eqb, decides-then, _and_, decides-not, decides-if, decides-unless, decides-below, decides-some, decides-apart, decides-each}
 use Rattle.state.proofs.Blocks.{length-counts, counts-at, rank-low, entry-low, entry-here}
 
 -- "distinct channels 0 to 62"

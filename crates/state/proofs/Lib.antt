@@ -1,8 +1,9 @@
--- Laws of the state: of tests put together of tests, of the blocks that a table gives to an owner, that the tests of soundness are exact,
--- and what soundness says of places; and of the loops that decide it, turn by turn.
+-- Laws of the state: of the blocks that a table gives to an owner, that the tests of soundness are exact, what soundness says of places and
+-- the types of slots; and of the loops that decide it, turn by turn.
 pub mod Each
 pub mod Blocks
 pub mod Exactly
 pub mod Places
+pub mod Fits
 pub mod Counts
 pub mod Walk

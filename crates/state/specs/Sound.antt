@@ -1,14 +1,12 @@
 -- "A state is sound when:", clause by clause. Assumes nothing.
 use mathlib.Core.Path.{_≡_}
-use mathlib.Core.Bool.{Bool, true, false}
+use mathlib.Core.Bool.{true, false}
 use mathlib.Core.List.{List}
-use Prim.Native.Nat.{ℕ, _+_, _-_, _*_, _≤_, _<_}
-use lib.ListN.{length, getD, take, drop}
+use Prim.Native.Nat.{ℕ, _-_, _*_, _≤_, _<_}
+use lib.ListN.{length, getD}
 use Rattle.octets.specs.Number.{part}
-use Rattle.packet.specs.declared.Packet.{Packet}
 use Rattle.packet.specs.Header.{packetOf, sizeOf, bad}
 use Rattle.transport.specs.Length.{goodLength}
-use Rattle.state.specs.declared.Slot.{Slot}
 use Rattle.state.specs.declared.Desk.{Desk}
 use Rattle.state.specs.declared.Station.{Station}
 use Rattle.state.specs.Slots.{slotAt, deskAt, noFile, held, incomplete, needOf, named}

@@ -5,11 +5,11 @@ use Prim.Native.Nat.{ℕ, _≤_, _<_}
 use borrow.Author.Tests.{not-false, lt-ltb, le-ltb, ltb-true, leb-true}
 use lib.Dec.{leb, ltb, eqb}
 use Rattle.octets.proofs.Lists.{if-cases}
+use Rattle.octets.proofs.Tests.{and-left, and-right}
 use Rattle.state.specs.declared.Slot.{Slot}
 use Rattle.state.specs.declared.Station.{Station}
 use Rattle.state.specs.Slots.{slotAt, held, complete, needOf, named}
 use Rattle.state.specs.Decision.{goodChannels, setUpSound, isSound}
-use Rattle.state.proofs.Each.{and-left, and-right}
 use Rattle.station.specs.Files.{isHeld, asked}
 use Rattle.station.specs.declared.Asked.{Asked}
 use Rattle.station.specs.declared.Asked.the-variants.{Refused, Complete, Incomplete}

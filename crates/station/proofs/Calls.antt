@@ -1,25 +1,39 @@
 -- What each call gives back, read off the definitions once: the first number of its list that applies, and then nothing changes; or 0, and
 -- then what was to be done is done. Assumes nothing.
 use mathlib.Core.Path.{_≡_, refl, _∙_}
-use mathlib.Core.Bool.{Bool, true, false, not, _&&_, false≢true}
+use mathlib.Core.Bool.{Bool, true, false, not, _&&_, _||_, and-false, false≢true}
 use mathlib.Core.Logic.{_↔_}
-use mathlib.Core.List.{List, [], _∷_}
-use Prim.Native.Nat.{ℕ, _*_, _/_, _≤_, _<_}
+use mathlib.Core.List.{List, [], _∷_, map}
+use Prim.Native.Nat.{ℕ, suc, _*_, _/_, _≤_, _<_}
 use native.Mathlib.Decide.{ℕ-discrete}
 use native.Mathlib.Omega.{arith}
-use borrow.Author.Tests.{not-true, not-false, ltb-true, lt-ltb, le-leb, eqb-true, eq-eqb}
-use lib.Dec.{ltb, eqb}
-use lib.ListN.{length, replicate, length-replicate}
+use borrow.Author.Tests.{not-true, not-false, ltb-true, lt-ltb, le-leb, lt-leb, eqb-true}
+use lib.Dec.{ltb, leb, eqb}
+use lib.ListN.{length, take, replicate, length-replicate}
 use Rattle.octets.specs.Choice.{if_then_else_}
 use Rattle.octets.specs.Number.{part}
 use Rattle.octets.proofs.Lists.{if-map}
+use Rattle.frame.specs.declared.Channel.{Channel}
+use Rattle.frame.specs.declared.Examined.{Examined}
+use Rattle.frame.specs.declared.Examined.the-variants.{Refused, Good}
+use Rattle.frame.specs.declared.Frame.{Frame}
+use Rattle.frame.specs.declared.Pointer.{Pointer}
+use Rattle.frame.specs.declared.Pointer.the-variants as pointer
+use Rattle.frame.specs.declared.Pointer.the-variants.{Offset, NoStart}
+use Rattle.frame.specs.declared.Watch.{Watch}
+use Rattle.frame.specs.declared.Watch.the-variants.{Desk, NotWatched}
+use Rattle.frame.specs.Kinds.{deskFrom, deskOf}
+use Rattle.frame.specs.Header.{derandomised, frameOf, pointerMeaning}
+use Rattle.frame.specs.Refusals.{pointed, watchedBy, examinedHeader, examined}
+use Rattle.frame.proofs.Fields.{bounded}
+use Rattle.frame.proofs.Pointers.{Means, means}
 use Rattle.transport.specs.Length.{octetsOfBits}
 use Rattle.state.specs.declared.Slot.{Slot}
 use Rattle.state.specs.declared.Station.{Station}
-use Rattle.state.specs.Slots.{slotAt, held, needOf, complete, incomplete, allZeroState}
+use Rattle.state.specs.Slots.{slotAt, held, needOf, complete, incomplete, number, allZeroState}
 use Rattle.state.specs.Sound.{Sized, Sound, DesksSound}
-use Rattle.state.specs.Decision.{among, goodChannels, isSound}
-use Rattle.state.proofs.Each.{and-left, and-right, and-both}
+use Rattle.state.specs.Decision.{among, goodChannels, isSound, areDesksSound}
+use Rattle.octets.proofs.Tests.{and-left, and-right}
 use Rattle.room.specs.Move.{letGo}
 use Rattle.room.specs.File.{fileOctets}
 use Rattle.room.proofs.Keeps.{refiled-sized, refiled-desks, letGo-refiles, letGo-sound}
@@ -27,11 +41,15 @@ use Rattle.station.specs.SetUp.{SetUpOutcome, setUpGives, desksFit, whol
 use Rattle.station.specs.Files.{answered, isHeld, asked, releasedAs, released, droppedAs, dropped, ReadOutcome, readGives, storeFits, within, readAs, readOut}
 use Rattle.station.specs.declared.Answered.{Answered}
 use Rattle.station.specs.declared.Asked.{Asked}
-use Rattle.station.specs.declared.Asked.the-variants.{Refused, Complete, Incomplete}
-use Rattle.station.specs.Answers.{Reason, decided, applies, setUpSays, slotSays, releaseSays, dropSays, readSays}
-use Rattle.station.specs.Answers.Reason.{_when_}
+use Rattle.station.specs.declared.Asked.the-variants as asks
+use Rattle.station.specs.declared.Asked.the-variants.{Complete, Incomplete}
+use Rattle.station.specs.Frame.{FrameOutcome, frameGives, taken, examinedFrame, framed}
+use Rattle.octets.specs.Reasons.{Reason, decided, applies}
+use Rattle.station.specs.Answers.{Ready, setUpSays, slotSays, releaseSays, dropSays, readSays, headerSays, frameSays, seat, acceptedAs, walkedAs}
+use Rattle.octets.specs.Reasons.Reason.{_when_}
 use Rattle.station.proofs.Asking.{complete-held}
-use Rattle.station.proofs.Decided.{None, Outcome, outcome, never}
+use Rattle.octets.proofs.Reasons.{None}
+use Rattle.station.proofs.Decided.{Outcome, outcome, never}
 use Rattle.station.proofs.Fresh.{few-channels, whole-store, fresh-sized, fresh-sound, fresh-desks}
 
 pub setUp-is : (craft : ℕ) (channels desks store : List ℕ) → setUp craft channels desks store
@@ -42,7 +60,7 @@ setUp-is craft channels desks store = refl
 
 -- a slot that is asked for, under what comes of the answer
 asked-is : {A : Type 0} (f : Asked → A) (s : Station) (k : ℕ) → f (asked s k)
-    ≡ decided (slotSays s k []) (if complete (slotAt s k) then f (Complete k) else f (Incomplete k)) (λ (n : ℕ). f (Refused n))
+    ≡ decided (slotSays s k []) (if complete (slotAt s k) then f (Complete k) else f (Incomplete k)) (λ (n : ℕ). f (asks.Refused n))
 unfolding asked
 asked-is f s k = simp (if-map f)
 
@@ -67,6 +85,53 @@ module _ (s : Station) (k : ℕ) where
       let fits = storeFits (s .blocks) store in
       let inside = within (octetsOfBits (slotAt s k .bits)) offset (length buffer) in
       rw (asked-is (readAs s store offset buffer) s k, if-not fits, if-not (complete (slotAt s k)), if-not inside)
+
+-- a channel has a desk exactly if it is named
+abbrev hasSeat : Watch → Bool
+hasSeat (Desk i) = true
+hasSeat NotWatched = false
+
+named-seat : (i : ℕ) (ws : List Channel) (c : Channel) → among (c .0) (map number ws) ≡ hasSeat (deskFrom i ws c)
+unfolding among deskFrom
+named-seat i [] c = refl
+named-seat i (w ∷ ws) c = by (eqb (w .0) (c .0)) (named-seat (suc i) ws c)
+  where
+    by : (b : Bool) → among (c .0) (map number ws) ≡ hasSeat (deskFrom (suc i) ws c)
+        → (b || among (c .0) (map number ws)) ≡ hasSeat (if b then Desk i else deskFrom (suc i) ws c)
+    by true e = refl
+    by false e = e
+
+-- a header that is examined, under what comes of the answer
+module _ {A : Type 0} (g : Examined → A) (h : Frame) (few : h .pointer < 2048) where
+  pointed-is : (d : ℕ) (m : Pointer) → Means (h .pointer) m
+      → g (pointed d h m)
+      ≡ (if leb 884 (h .pointer) && leb (h .pointer) 2046 then g (Refused 9)
+      else g (Good (record { desk = d; counter = h .counter; pointer = h .pointer })))
+  pointed-is d (Offset q) (same, low) = rw (lt-leb 884 (h .pointer) low)
+  pointed-is d NoStart e = rw (lt-leb (h .pointer) 2046 (omega arith), and-false)
+  pointed-is d pointer.Refused (from, other) = rw (le-leb 884 (h .pointer) from, le-leb (h .pointer) 2046 (omega arith))
+
+  watched-is : (w : Watch) → g (watchedBy h w)
+      ≡ (if not (hasSeat w) then g (Refused 8)
+      else if leb 884 (h .pointer) && leb (h .pointer) 2046 then g (Refused 9)
+      else g (Good (record { desk = seat w; counter = h .counter; pointer = h .pointer })))
+  watched-is (Desk d) = pointed-is d (pointerMeaning (h .pointer)) (means (h .pointer))
+  watched-is NotWatched = refl
+
+  header-is : (s : Station) → g (examinedHeader (s .spacecraft) (take (s .channels) (s .watched)) h)
+      ≡ decided (headerSays s h) (g (Good (acceptedAs s h))) (λ (n : ℕ). g (Refused n))
+  unfolding examinedHeader deskOf
+  header-is s =
+      let ws = take (s .channels) (s .watched) in
+      simp (if-map g, watched-is (deskFrom 0 ws (h .channel)), named-seat 0 ws (h .channel))
+
+module _ (s : Station) (desks store list f : List ℕ) where
+  pub frame-is : framed s desks store list f
+      ≡ decided (frameSays s desks store list f) (taken s list (walkedAs s desks store f)) (λ (n : ℕ). frameGives n 0 s desks store list)
+  unfolding framed examined examinedFrame
+  frame-is =
+      let g = examinedFrame s desks store list f in
+      simp (if-map g, header-is g (frameOf (derandomised f)) (bounded (derandomised f) .pointer) s)
 
 -- release and drop: the file of slot k goes, or nothing changes
 abbrev pub Goes : Station → ℕ → List Reason → Answered → Type 0
@@ -96,6 +161,12 @@ unfolding among
 setUp-outcome craft channels desks store =
     rw (setUp-is craft channels desks store) (outcome _ (setUpSays channels desks store) _ _ refl (λ n. refl) refl)
 
+pub frame-outcome : (s : Station) (desks store list f : List ℕ) → Outcome (λ (r : FrameOutcome). r .answer) (frameSays s desks store list f)
+    (taken s list (walkedAs s desks store f)) (λ (n : ℕ). frameGives n 0 s desks store list) (framed s desks store list f)
+unfolding among
+frame-outcome s desks store list f =
+    rw (frame-is s desks store list f) (outcome _ (frameSays s desks store list f) _ _ refl (λ n. refl) refl)
+
 -- the numbers that each call can give
 module _ (s : Station) (k : ℕ) where
   pub release-answers : among (released s k .answer) (0 ∷ 2 ∷ 11 ∷ 12 ∷ []) ≡ true
@@ -111,6 +182,10 @@ module _ (s : Station) (k : ℕ) where
 pub setUp-answers : (craft : ℕ) (channels desks store : List ℕ) → among (setUp craft channels desks store .answer) (0 ∷ 10 ∷ 1 ∷ []) ≡ true
 setUp-answers craft channels desks store = setUp-outcome craft channels desks store .one-of
 
+pub frame-answers : (s : Station) (desks store list f : List ℕ)
+    → among (framed s desks store list f .answer) (0 ∷ 1 ∷ 2 ∷ 3 ∷ 4 ∷ 5 ∷ 6 ∷ 7 ∷ 8 ∷ 9 ∷ []) ≡ true
+frame-answers s desks store list f = frame-outcome s desks store list f .one-of
+
 -- "The lowest number that applies is given, except that at set-up 10 comes before 1"
 module _ (s : Station) (k : ℕ) where
   pub release-lowest : (n : ℕ) → applies (releaseSays s k) n ≡ true → (1 ≤ released s k .answer) × (released s k .answer ≤ n)
@@ -122,6 +197,10 @@ module _ (s : Station) (k : ℕ) where
   pub read-lowest : (store : List ℕ) (offset : ℕ) (buffer : List ℕ) (n : ℕ) → applies (readSays s store k offset (length buffer)) n ≡ true
       → (1 ≤ readOut s store k offset buffer .answer) × (readOut s store k offset buffer .answer ≤ n)
   read-lowest store offset buffer = read-outcome s k store offset buffer .lowest refl
+
+pub frame-lowest : (s : Station) (desks store list f : List ℕ) (n : ℕ) → applies (frameSays s desks store list f) n ≡ true
+    → (1 ≤ framed s desks store list f .answer) × (framed s desks store list f .answer ≤ n)
+frame-lowest s desks store list f = frame-outcome s desks store list f .lowest refl
 
 pub setUp-ten : (craft : ℕ) (channels desks store : List ℕ) → goodChannels channels ≡ false → setUp craft channels desks store .answer ≡ 10
 setUp-ten craft channels desks store bad = rw (setUp-is craft channels desks store, bad)
@@ -207,16 +286,11 @@ module _ (s : Station) (k : ℕ) (sound : isSound s ≡ true) where
   pub drop-never-2 : dropped s k .answer ≡ 2 → ⊥
   drop-never-2 = never (drop-outcome s k) 2 (omega arith) (rw sound)
 
+  pub frame-never-2 : (desks store list f : List ℕ) → areDesksSound s desks ≡ true → framed s desks store list f .answer ≡ 2 → ⊥
+  frame-never-2 desks store list f d = never (frame-outcome s desks store list f) 2 (omega arith) (rw (sound, d))
+
   pub read-never-2 : (store : List ℕ) (offset : ℕ) (buffer : List ℕ) → readOut s store k offset buffer .answer ≡ 2 → ⊥
   read-never-2 store offset buffer = never (read-outcome s k store offset buffer) 2 (omega arith) (rw sound)
-
--- a state with the memory that was lent for it, as a set-up answered by 0 hands it over
-pub record Ready (s : Station) (d m : List ℕ) : Type 0 where
-  pub sized : Sized s
-  pub sound : Sound s
-  pub desks : DesksSound s d
-  pub desks-fit : desksFit (s .channels) d ≡ true
-  pub store-fits : storeFits (s .blocks) m ≡ true
 
 -- release and drop keep it
 module _ {s : Station} (k : ℕ) {rs : List Reason} {r : Answered} (g : Goes s k (slotSays s k rs) r) where
@@ -246,8 +320,8 @@ module _ {s : Station} (k : ℕ) {rs : List Reason} {r : Answered} (g : Goes s k
         sized = goes-sized (h .sized);
         sound = goes-sound (h .sized) (h .sound);
         desks = goes-desks desks (h .desks);
-        desks-fit = rw (goes-fits .0) (h .desks-fit);
-        store-fits = rw (goes-fits .1) (h .store-fits);
+        desked = rw (goes-fits .0) (h .desked);
+        stored = rw (goes-fits .1) (h .stored);
       }
 
 module _ (craft : ℕ) (channels desks store : List ℕ) where
@@ -262,8 +336,8 @@ module _ (craft : ℕ) (channels desks store : List ℕ) where
         sized = fresh-sized craft channels n (few-channels channels good);
         sound = fresh-sound craft channels n good (w .one) (w .most);
         desks = rw l (fresh-desks craft channels n);
-        desks-fit = eq-eqb _ _ (length-replicate (length desks) 0 ∙ l);
-        store-fits = and-both (and-both (le-leb 1 n (w .one)) (le-leb n 4096 (w .most))) (eq-eqb (length store) (8190 * n) (w .all));
+        desked = length-replicate (length desks) 0 ∙ l;
+        stored = w .all;
       }
 
   -- a set-up answered by 0

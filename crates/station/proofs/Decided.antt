@@ -7,27 +7,12 @@ use Prim.Native.Nat.{ℕ, _-_, _≤_, _<_}
 use native.Mathlib.Omega.{arith}
 use borrow.Author.Tests.{eq-eqb, eqb-true, lt-ltb, ltb-true}
 use lib.Dec.{ltb, eqb}
-use Rattle.octets.proofs.Lists.{if-cases}
+use Rattle.octets.specs.Reasons.{Reason, decided, numbers, applies}
+use Rattle.octets.specs.Reasons.Reason.{_when_}
+use Rattle.octets.proofs.Reasons.{None, First, decided-cases}
+use Rattle.octets.proofs.Reasons.First.{here, later}
+use Rattle.octets.proofs.Tests.{and-left, and-right, and-both}
 use Rattle.state.specs.Decision.{among}
-use Rattle.state.proofs.Each.{and-left, and-right, and-both}
-use Rattle.station.specs.Answers.{Reason, decided, numbers, applies}
-use Rattle.station.specs.Answers.Reason.{_when_}
-
--- no reason applies
-abbrev pub None : List Reason → Type 0
-None [] = Unit
-None ((n when b) ∷ rs) = (b ≡ false) × None rs
-
--- the reason of n is the first that applies
-pub data First : List Reason → ℕ → Type 0 where
-  here : {n : ℕ} {b : Bool} {rs : List Reason} → b ≡ true → First ((n when b) ∷ rs) n
-  later : {m n : ℕ} {b : Bool} {rs : List Reason} → b ≡ false → First rs m → First ((n when b) ∷ rs) m
-
-pub decided-cases : {A : Type 0} (P : A → Type 0) (rs : List Reason) {done : A} {refused : ℕ → A}
-    → (None rs → P done) → ((n : ℕ) → First rs n → P (refused n)) → P (decided rs done refused)
-decided-cases P [] d r = d tt
-decided-cases P ((n when b) ∷ rs) d r =
-    if-cases P b (λ e. r n (here e)) (λ e. decided-cases P rs (λ f. d (e, f)) (λ m f. r m (later e f)))
 
 first-among : {rs : List Reason} {n : ℕ} → First rs n → among n (numbers rs) ≡ true
 unfolding among

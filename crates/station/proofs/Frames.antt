@@ -1,16 +1,18 @@
--- The frame call, case by case: what is lent, the state, the frame's refusals, and what a frame that is not refused is walked with.
--- Assumes nothing.
-use mathlib.Core.Path.{_≡_, sym, ap, _∙_}
+-- The frame call, case by case: what is lent, the state, the frame's refusals, what a frame that is not refused is walked with, and how few
+-- its events are. Assumes nothing.
+use mathlib.Core.Path.{_≡_, refl, sym, ap, _∙_}
 use mathlib.Core.Bool.{true, false, not, _&&_}
 use mathlib.Core.List.{List}
 use Prim.Native.Nat.{ℕ, _+_, _*_, _≤_, _<_}
 use native.Mathlib.Omega.{arith}
-use borrow.Author.Tests.{eqb-true, leb-true}
+use borrow.Author.Tests.{eqb-true, leb-true, not-false}
 use lib.Dec.{leb, eqb}
 use lib.ListN.{length, take, List·getD-map}
 use lib.Seq.{getD-take, length-take-le}
 use Rattle.octets.specs.Each.{each}
 use Rattle.octets.specs.Number.{part}
+use Rattle.octets.proofs.Lists.{if-cases}
+use Rattle.octets.proofs.Tests.{and-left, and-right}
 use Rattle.frame.specs.declared.Accepted.{Accepted}
 use Rattle.frame.specs.declared.Examined.{Examined}
 use Rattle.frame.specs.declared.Examined.the-variants.{Refused, Good}
@@ -24,15 +26,15 @@ use Rattle.state.specs.Slots.{named, number}
 use Rattle.state.specs.Blocks.{table}
 use Rattle.state.specs.Sound.{Sized, DesksSound}
 use Rattle.state.specs.Decision.{setUpSound, isOwner, slotsSound, blockCounts, noTwins, deskHolds, desksHeld, isSound, areDesksSound}
-use Rattle.state.proofs.Each.{and-left, and-right}
 use Rattle.state.proofs.Exactly.{sound-yes, desks-yes}
 use Rattle.judge.specs.Contract.{Watched}
 use Rattle.zone.specs.declared.Done.{Done}
 use Rattle.zone.specs.Walk.{walked}
 use Rattle.zone.specs.Contract.{Lent, Tells}
+use Rattle.zone.proofs.Walks.{walked-few, desk-unfinished}
 use Rattle.station.specs.SetUp.{desksFit, channelOf}
 use Rattle.station.specs.Files.{storeFits}
-use Rattle.station.specs.Frame.{frameGives, lentRight, channelAt, examinedFrame, framed}
+use Rattle.station.specs.Frame.{FrameOutcome, frameGives, lentRight, channelAt, examinedFrame, framed}
 
 module _ (s : Station) where
   -- what the test of the desks asks
@@ -115,7 +117,7 @@ module _ (s : Station) (desks store list : List ℕ) where
                 }
 
             module _ (z : Sized s) (before : List ℕ) {plain : List ℕ} (p : plain ≡ plainAfter f before) where
-              pub lent-on : Lent (channelAt s (a .desk)) s a (part 8 884 plain) desks store list
+              lent-on : Lent (channelAt s (a .desk)) s a (part 8 884 plain) desks store list
               lent-on =
                   record {
                     sound = sound-yes z e;
@@ -129,9 +131,13 @@ module _ (s : Station) (desks store list : List ℕ) where
                     listed = lent-list l;
                   }
 
-              pub desks-on : DesksSound s desks
+              desks-on : DesksSound s desks
               unfolding areDesksSound
               desks-on = desks-yes desks z (sound-yes z e) (lent-desks l) d
+
+              -- what the zone is walked with
+              pub walk-lent : Lent (channelAt s (a .desk)) s a (part 8 884 plain) desks store list × DesksSound s desks
+              walk-lent = (lent-on, desks-on)
 
               pub frame-taken : {r : Done} {desks₁ store₁ list₁ : List ℕ}
                   → Tells (walked (channelAt s (a .desk)) s desks store (part 8 884 plain) a) 0 list r desks₁ store₁ list₁
@@ -141,3 +147,33 @@ module _ (s : Station) (desks store list : List ℕ) where
                   let w = walked (channelAt s (a .desk)) s desks store (part 8 884 plain) a in
                   let k : length (w .events) ≡ 0 + length (w .events) = omega arith in
                   rw (t .station, t .events, t .desked, t .stored, t .listed, l, e, d, ← g, h, ← zone-here before p, ← k)
+
+-- "no frame produces more than 300"
+abbrev Few : FrameOutcome → Type 0
+Few o = o .events ≤ 300
+
+module _ (s : Station) (z : Sized s) (desks store list f : List ℕ) where
+  module _ (l : lentRight s desks store list ≡ true) (e : isSound s ≡ true) (d : areDesksSound s desks ≡ true) where
+    examined-few : (x : Examined) → x ≡ examined (s .spacecraft) (take (s .channels) (s .watched)) f → Few (examinedFrame s desks store list f x)
+    unfolding examinedFrame areDesksSound
+    examined-few (Refused n) g = omega arith
+    examined-few (Good a) g =
+        let size = length-zone (derandomised f) (length-derandomised f (good-size _ _ f a (sym g))) in
+        let low = desk-watched s desks store list f l e d g refl z in
+        let lent = lent-desks s desks store list l in
+        let sound = sound-yes z e in
+        let held = desk-unfinished sound desks lent (a .desk) low (desks-yes desks z sound lent d) in
+        omega (arith, walked-few (channelAt s (a .desk)) s desks store a (zoneOf (derandomised f)) size held)
+
+  framed-few : framed s desks store list f .events ≤ 300
+  unfolding framed
+  framed-few =
+      if-cases Few (not (lentRight s desks store list)) (λ _. omega arith)
+      (λ l. if-cases Few (not (isSound s && areDesksSound s desks)) (λ _. omega arith)
+      (λ b.
+      let both : (isSound s && areDesksSound s desks) ≡ true = not-false _ b in
+      examined-few (not-false _ l) (and-left (isSound s) (areDesksSound s desks) both) (and-right (isSound s) (areDesksSound s desks) both) _ refl))
+
+  pub few-told : {n k : ℕ} {s₁ : Station} {desks₁ store₁ list₁ : List ℕ}
+      → frameGives n k s₁ desks₁ store₁ list₁ ≡ framed s desks store list f → k ≤ 300
+  few-told e = omega (arith, ap (λ (o : FrameOutcome). o .events) e, framed-few)

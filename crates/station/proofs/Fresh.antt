@@ -1,40 +1,23 @@
 -- "A fresh station has empty desks (all octets zero), no held file, all blocks free", and is sound. Assumes nothing.
 use mathlib.Core.Path.{_≡_, refl, sym, ap, _∙_}
 use mathlib.Core.Bool.{true, false, _&&_, true≢false}
-use mathlib.Core.List.{List, [], _∷_, map, map-map, map-id}
-use Prim.Native.Nat.{ℕ, zero, suc, _+_, _*_, _/_, _%_, _≤_}
+use mathlib.Core.List.{List, map, map-map, map-id}
+use Prim.Native.Nat.{ℕ, _*_, _/_, _%_, _≤_}
 use native.Mathlib.Omega.{arith}
 use borrow.Author.Tests.{leb-true, eqb-true}
 use lib.Dec.{leb, eqb}
-use lib.ListN.{length, getD, take, drop, replicate, length-append, length-map, length-replicate}
-use lib.Seq.{take-at, getD-drop}
+use lib.ListN.{length, getD, drop, replicate, length-append, length-map, length-replicate}
+use lib.Seq.{take-at}
+use Rattle.octets.proofs.Below.{neither}
+use Rattle.octets.proofs.Lists.{only-replicate, only-drop, only-take}
 use Rattle.octets.proofs.Decide.{told-true}
+use Rattle.octets.proofs.Tests.{and-left, and-right}
 use Rattle.state.specs.Slots.{noFile, emptyDesk, allZeroState, slotAt, deskAt, held, incomplete, named, number}
 use Rattle.state.specs.Blocks.{table, needs, room}
 use Rattle.state.specs.Sound.{Sized, SetUp, Sound, DesksSound}
 use Rattle.state.specs.Decision.{goodChannels, setUpSound, isSound}
-use Rattle.state.proofs.Each.{and-left, and-right, neither}
 use Rattle.state.proofs.Exactly.{channels-exactly}
 use Rattle.station.specs.SetUp.{wholeBlocks, channelOf, freshStation}
-
--- a list with nothing in it but one value
-module _ {A : Type 0} (x : A) where
-  abbrev pub Only : List A → Type 0
-  Only xs = (i : ℕ) → getD xs i x ≡ x
-
-  pub only-replicate : (n : ℕ) → Only (replicate n x)
-  only-replicate zero i = refl
-  only-replicate (suc n) zero = refl
-  only-replicate (suc n) (suc i) = only-replicate n i
-
-  pub only-drop : (n : ℕ) (xs : List A) → Only xs → Only (drop n xs)
-  only-drop n xs f i = getD-drop n xs i x ∙ f (n + i)
-
-  pub only-take : (n : ℕ) (xs : List A) → Only xs → Only (take n xs)
-  only-take zero xs f i = refl
-  only-take (suc n) [] f i = refl
-  only-take (suc n) (y ∷ xs) f zero = f 0
-  only-take (suc n) (y ∷ xs) f (suc i) = only-take n xs (λ j. f (suc j)) i
 
 -- "1 to 8 distinct channels"
 pub few-channels : (channels : List ℕ) → goodChannels channels ≡ true → length channels ≤ 8

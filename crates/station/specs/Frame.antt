@@ -1,12 +1,11 @@
 -- The frame call. Assumes nothing.
 use mathlib.Core.Bool.{Bool, not, _&&_}
 use mathlib.Core.List.{List}
-use Prim.Native.Nat.{ℕ, _*_}
+use Prim.Native.Nat.{ℕ}
 use lib.Dec.{leb}
 use lib.ListN.{length, getD, take}
 use Rattle.octets.specs.Choice.{if_then_else_}
 use Rattle.octets.specs.Buffer.{put}
-use Rattle.frame.specs.declared.Accepted.{Accepted}
 use Rattle.frame.specs.declared.Channel.{Channel}
 use Rattle.frame.specs.declared.Examined.{Examined}
 use Rattle.frame.specs.declared.Examined.the-variants.{Refused, Good}
@@ -14,7 +13,7 @@ use Rattle.frame.specs.Header.{derandomised, zoneOf}
 use Rattle.frame.specs.Refusals.{examined}
 use Rattle.state.specs.declared.Station.{Station}
 use Rattle.state.specs.Decision.{isSound, areDesksSound}
-use Rattle.judge.specs.Event.{Event, flat}
+use Rattle.judge.specs.Event.{flat}
 use Rattle.zone.specs.Walk.{Walked, walked}
 use Rattle.station.specs.SetUp.{desksFit, channelOf}
 use Rattle.station.specs.Files.{storeFits}

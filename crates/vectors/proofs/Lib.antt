@@ -1,3 +1,4 @@
--- Laws of digits read.
+-- Laws of digits read, and of signs.
 pub mod Decoding
 pub mod Questions
+pub mod Signs

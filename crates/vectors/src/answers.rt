@@ -2,6 +2,7 @@
 // ends. A question whose octets are not of the number that its letter asks is none.
 use crate::digits;
 use crate::digits::Decoded;
+use crate::headers;
 use frame::Counter;
 use frame::Frame;
 use frame::Pointer;
@@ -207,6 +208,17 @@ fn counter_answer(q: &[u8], out: &mut [u8]) -> usize
     text::number(next.follows(last) as u64, out, letter)
 }
 
+// A record of a file by its number, which stands in front of the file.
+fn numbered_answer(q: &[u8], out: &mut [u8]) -> usize
+    requires { ⌜ length (now out) ≡ 2051 ⌝ }
+    ensures { λ r. ⌜ r ≤ 2050 ⌝ }
+{
+    if q.len() < 2 {
+        return refusal(out);
+    }
+    headers::record_answer(q, out)
+}
+
 fn answer_to(letter: u8, q: &[u8], out: &mut [u8]) -> usize
     requires { ⌜ length (now out) ≡ 2051 ⌝ }
     ensures { λ r. ⌜ r ≤ 2050 ⌝ }
@@ -219,6 +231,8 @@ fn answer_to(letter: u8, q: &[u8], out: &mut [u8]) -> usize
         b'L' => length_answer(q, out),
         b'S' => shape_answer(q, out),
         b'W' => counter_answer(q, out),
+        b'H' => headers::header_answer(q, out),
+        b'R' => numbered_answer(q, out),
         _ => refusal(out),
     }
 }

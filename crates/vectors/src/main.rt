@@ -4,6 +4,7 @@
 // are those that its digits stand for (digits.rt), and the pieces of an answer are the text of its numbers (the crate text).
 mod answers;
 mod digits;
+mod headers;
 
 use libc::STDIN_FILENO;
 use libc::STDOUT_FILENO;

@@ -20,7 +20,7 @@ use Rattle.packet.specs.Header.{lookOf, sizeOf}
 use Rattle.packet.proofs.Looks.{look-good, look-tells}
 use Rattle.state.specs.declared.Station.{Station}
 use Rattle.state.specs.Slots.{deskAt}
-use Rattle.state.specs.Sound.{Sized, DesksSound}
+use Rattle.state.specs.Sound.{Sized}
 use Rattle.judge.specs.declared.Told.{Told}
 use Rattle.judge.specs.Event.{Event, bare, flat}
 use Rattle.judge.specs.Judge.{judged}
@@ -31,13 +31,13 @@ use Rattle.zone.specs.declared.Done.{Done}
 use Rattle.zone.specs.declared.Fate.{Fate}
 use Rattle.zone.specs.declared.Fate.the-variants.{Dropped, CarriedOn}
 use Rattle.zone.specs.Zone.{split, Reading, agrees, reading}
-use Rattle.zone.specs.Walk.{gap, heldAt, withDesk, withHeld, Walked, walkedFrom, walked}
-use Rattle.zone.specs.Contract.{Lent, startAt, fateOf, Tells, carried}
+use Rattle.zone.specs.Walk.{gap, heldAt, withHeld, Walked, walkedFrom, walked}
+use Rattle.zone.specs.Contract.{Lent, Carrying, startAt, leaves, fateOf, Tells, carried}
 use Rattle.zone.proofs.Split.{split-left, unfinished-few, look-carried, carried-lacks, carried-packet}
 use Rattle.zone.proofs.Readings.{from-start, atPointer, onward, reading-none, reading-bad, reading-on, reading-dropped, reading-gap, reading-seamless}
 use Rattle.zone.proofs.Desks.{over-held, more-held, carried-cut}
 use Rattle.zone.proofs.Walks.{walked-from, from-carried, from-longer, held-length, desk-unfinished, led, from-led, tells-led}
-use Rattle.zone.proofs.Ends.{deskAfter, desk-fits}
+use Rattle.zone.proofs.Ends.{desk-fits}
 
 -- the same promise in other words
 pub tells-as : {w v : Walked} {n : ℕ} {list₀ list desks store : List ℕ} {r : Done} → w ≡ v → Tells v n list₀ r desks store list → Tells w n list₀ r desks store list
@@ -186,151 +186,152 @@ module _ {c : Channel} {s : Station} {a : Accepted} {zone desks store list : Lis
         listed = omega (arith, L .listed, ap length (u .listed), length-put list (3 * n) (flat (judged c s store p .events)));
       }
 
--- the held octets on their desk, and as many of the zone's behind them as fit
-module _ {c : Channel} {s : Station} {a : Accepted} {zone desks store list : List ℕ} (L : Lent c s a zone desks store list) (D : DesksSound s desks)
-    (held : ℕ) (is : (held ≡ deskAt s (a .desk) .held) × (0 < held)) where
+-- octets are held, and as many of the zone's as fit are to be put behind them
+module _ {c : Channel} {s : Station} {a : Accepted} {held : ℕ} {zone desks store list : List ℕ} (C : Carrying c s a held zone desks store list) where
   pub held-few : held ≤ 8197
-  held-few = omega (arith, is .0, L .sound .desks (a .desk) (L .desk) .few)
-
-  long : length (heldAt s desks (a .desk)) ≡ held
-  long = held-length (L .sound) desks (L .desked) (a .desk) (L .desk) ∙ sym (is .0)
+  held-few = omega (arith, C .here, C .lent .sound .desks (a .desk) (C .lent .desk) .few)
 
   module _ {more : ℕ} (m : more ≡ min 884 (8198 - held)) where
-    pub more-few : more ≤ 884
-    more-few = omega arith
-
     pub more-fits : held + more ≤ 8198
     more-fits = omega (arith, held-few)
 
     pub more-taken : length (take more zone) ≡ more
-    more-taken = length-take-le more zone (omega (arith, more-few, L .frame))
+    more-taken = length-take-le more zone (omega (arith, C .lent .frame))
 
     pub copy-fits : 8198 * a .desk + held + more ≤ length desks
-    copy-fits = omega (arith, more-fits, desk-fits L)
+    copy-fits = omega (arith, more-fits, desk-fits (C .lent))
 
-    module _ {written : List ℕ} (w : written ≡ put desks (8198 * a .desk + held) (take more zone)) where
-      pub written-length : length written ≡ length desks
-      written-length = ap length w ∙ length-put desks (8198 * a .desk + held) (take more zone)
+-- they are put there
+pub record Joined (c : Channel) (s : Station) (a : Accepted) (held : ℕ) (zone desks store list : List ℕ) : Type 0 where
+  pub carrying : Carrying c s a held zone desks store list
+  pub more : ℕ
+  pub most : more ≡ min 884 (8198 - held)
+  pub written : List ℕ
+  pub wrote : written ≡ put desks (8198 * a .desk + held) (take more zone)
 
-      pub alike : Alike written desks (a .desk)
-      alike left l =
-          ap (λ (ds : List ℕ). withHeld ds (a .desk) left) w
-          ∙ over-held desks (a .desk) held (take more zone) (omega (arith, more-fits, more-taken)) left l
+-- the octets of a frame's desk up to a place, as the code lends them
+abbrev pub deskTo : Accepted → ℕ → List ℕ → List ℕ
+deskTo a end desks = take (end - 8198 * a .desk) (drop (8198 * a .desk) desks)
 
-      on-desk : (r : ℕ) → r ≤ more → part (8198 * a .desk) (held + r) written ≡ heldAt s desks (a .desk) ++ take r zone
-      on-desk r l =
-          ap (part (8198 * a .desk) (held + r)) w
-          ∙ carried-cut desks zone (8198 * a .desk) held more r copy-fits (omega (arith, more-few, L .frame)) l
-          ∙ ap (λ (n : ℕ). part (8198 * a .desk) n desks ++ take r zone) (is .0)
+module _ {c : Channel} {s : Station} {a : Accepted} {held : ℕ} {zone desks store list : List ℕ} (J : Joined c s a held zone desks store list) where
+  L : Lent c s a zone desks store list
+  L = J .carrying .lent
 
-      look-desk : lookOf (take (8198 * a .desk + held + more - 8198 * a .desk) (drop (8198 * a .desk) written)) ≡ lookOf (heldAt s desks (a .desk) ++ zone)
-      look-desk =
-          let k : 8198 * a .desk + held + more - 8198 * a .desk ≡ held + more = omega arith in
-          ap (λ (n : ℕ). lookOf (part (8198 * a .desk) n written)) k ∙ ap lookOf (on-desk more (omega arith))
-          ∙ look-carried (heldAt s desks (a .desk)) zone more (omega (arith, long, held-few)) (omega (arith, more-few, L .frame))
+  few : held ≤ 8197
+  few = held-few (J .carrying)
 
-      pub lacks : (h : Packet) → lookOf (take (8198 * a .desk + held + more - 8198 * a .desk) (drop (8198 * a .desk) written)) ≡ Good h → held ≤ sizeOf h
-      lacks h e =
-          omega (
-            arith,
-            carried-lacks (heldAt s desks (a .desk)) zone (sym look-desk ∙ e) (desk-unfinished (L .sound) desks (L .desked) (a .desk) (L .desk) D),
-            long,
-          )
+  long : length (heldAt s desks (a .desk)) ≡ held
+  long = held-length (L .sound) desks (L .desked) (a .desk) (L .desk) ∙ sym (J .carrying .here)
 
-      module _ {f : Fate} (e : f ≡ fateOf (lookOf (take (8198 * a .desk + held + more - 8198 * a .desk) (drop (8198 * a .desk) written))) held (a .pointer)) where
-        fate-here : f ≡ fateOf (lookOf (heldAt s desks (a .desk) ++ zone)) (length (heldAt s desks (a .desk))) (a .pointer)
-        fate-here = e ∙ ap₂ (λ (l : Look) (n : ℕ). fateOf l n (a .pointer)) look-desk (sym long)
+  some : 0 < length (heldAt s desks (a .desk))
+  some = omega (arith, long, J .carrying .some)
 
-        pub drops : {k : ℕ} → f ≡ Dropped k → reading (heldAt s desks (a .desk)) zone (a .pointer) ≡ atPointer (bare k ∷ []) zone (a .pointer)
-        drops g =
-            fate-dropped (heldAt s desks (a .desk)) zone (a .pointer) (omega (arith, long, is .1)) (omega (arith, L .frame)) (sym fate-here ∙ g)
+  lacks-some : (h : Packet) → lookOf (heldAt s desks (a .desk) ++ zone) ≡ Good h → held < sizeOf h
+  lacks-some h e =
+      let unfinished = desk-unfinished (L .sound) desks (L .desked) (a .desk) (L .desk) (J .carrying .orderly) in
+      omega (arith, carried-lacks (heldAt s desks (a .desk)) zone e unfinished, long)
 
-        pub goes-on : {size : ℕ} → f ≡ CarriedOn size → Onward (heldAt s desks (a .desk)) zone (a .pointer) size
-        goes-on g =
-            fate-onward (heldAt s desks (a .desk)) zone (a .pointer) (omega (arith, long, is .1)) (omega (arith, L .frame)) (sym fate-here ∙ g)
+  pub written-length : length (J .written) ≡ length desks
+  written-length = ap length (J .wrote) ∙ length-put desks (8198 * a .desk + held) (take (J .more) zone)
 
-      module _ {size : ℕ} (O : Onward (heldAt s desks (a .desk)) zone (a .pointer) size) where
-        pub lacking : held < size
-        lacking =
-            omega (
-              arith,
-              carried-lacks (heldAt s desks (a .desk)) zone (O .looks) (desk-unfinished (L .sound) desks (L .desked) (a .desk) (L .desk) D),
-              long,
-              O .sized,
-            )
+  pub alike : Alike (J .written) desks (a .desk)
+  alike left l =
+      ap (λ (ds : List ℕ). withHeld ds (a .desk) left) (J .wrote)
+      ∙ over-held desks (a .desk) held (take (J .more) zone)
+      (omega (arith, more-fits (J .carrying) (J .most), more-taken (J .carrying) (J .most))) left l
 
-        pub size-most : size ≤ 8198
-        size-most = omega (arith, look-good (heldAt s desks (a .desk) ++ zone) (O .header) (O .looks) .largest, O .sized)
+  on-desk : (r : ℕ) → r ≤ J .more → part (8198 * a .desk) (held + r) (J .written) ≡ heldAt s desks (a .desk) ++ take r zone
+  on-desk r l =
+      ap (part (8198 * a .desk) (held + r)) (J .wrote)
+      ∙ carried-cut desks zone (8198 * a .desk) held (J .more) r (copy-fits (J .carrying) (J .most)) (omega (arith, J .most, L .frame)) l
+      ∙ ap (λ (n : ℕ). part (8198 * a .desk) n desks ++ take r zone) (J .carrying .here)
 
-        lacked : length (heldAt s desks (a .desk)) + (size - held) ≡ sizeOf (O .header)
-        lacked = omega (arith, long, lacking, O .sized)
+  look-desk : lookOf (deskTo a (8198 * a .desk + held + J .more) (J .written)) ≡ lookOf (heldAt s desks (a .desk) ++ zone)
+  look-desk =
+      let k : 8198 * a .desk + held + J .more - 8198 * a .desk ≡ held + J .more = omega arith in
+      ap (λ (n : ℕ). lookOf (part (8198 * a .desk) n (J .written))) k ∙ ap lookOf (on-desk (J .more) (omega arith))
+      ∙ look-carried (heldAt s desks (a .desk)) zone (J .more) (omega (arith, long, few, J .most)) (omega (arith, J .most, L .frame))
 
-        packet-desk : size - held ≤ 884
-            → take (8198 * a .desk + size - 8198 * a .desk) (drop (8198 * a .desk) written) ≡ heldAt s desks (a .desk) ++ take (size - held) zone
-        packet-desk l =
-            let k : 8198 * a .desk + size - 8198 * a .desk ≡ held + (size - held) = omega (arith, lacking) in
-            ap (λ (n : ℕ). part (8198 * a .desk) n written) k ∙ on-desk (size - held) (omega (arith, size-most, lacking))
+  pub lacks : (h : Packet) → lookOf (deskTo a (8198 * a .desk + held + J .more) (J .written)) ≡ Good h → held ≤ sizeOf h
+  lacks h e = omega (arith, lacks-some h (sym look-desk ∙ e))
 
-        pub whole-desk : size - held ≤ 884 → Whole (take (8198 * a .desk + size - 8198 * a .desk) (drop (8198 * a .desk) written))
-        whole-desk l =
-            rw (packet-desk l)
-            (carried-packet (heldAt s desks (a .desk)) zone (O .looks) (size - held) lacked (omega (arith, L .frame)))
+  module _ {f : Fate} (e : f ≡ fateOf (lookOf (deskTo a (8198 * a .desk + held + J .more) (J .written))) held (a .pointer)) where
+    fate-here : f ≡ fateOf (lookOf (heldAt s desks (a .desk) ++ zone)) (length (heldAt s desks (a .desk))) (a .pointer)
+    fate-here = e ∙ ap₂ (λ (l : Look) (n : ℕ). fateOf l n (a .pointer)) look-desk (sym long)
 
-        -- "What is left unfinished at the zone's end is held."
-        pub tells-longer : 884 < size - held → {t : Station} → t ≡ withDesk s (a .desk) (deskAfter a (held + 884))
-            → Tells (carried c s desks store zone a) 0 list (record { station = t; events = 0 }) written store list
-        unfolding flat flatMap
-        tells-longer l t =
-            let xs = heldAt s desks (a .desk) in
-            let k : held + 884 ≡ length (xs ++ zone) = omega (arith, length-append xs zone, long, L .frame) in
-            let n : more ≡ 884 = omega (arith, size-most, lacking) in
-            let all : take more zone ≡ zone = take-all more zone (omega (arith, L .frame)) in
-            tells-as
-            (ap (λ (v : Reading). walkedFrom c s desks store a (v .events) (v .octets)) (O .reads)
-            ∙ from-longer c s desks store a [] xs zone (O .looks) (size - held) lacked (omega (arith, L .frame)))
-            (record {
-              station = t ∙ ap (λ (i : ℕ). withDesk s (a .desk) (deskAfter a i)) k;
-              events = refl;
-              desked =
-                  w ∙ ap (put desks (8198 * a .desk + held)) all
-                  ∙ more-held desks (a .desk) held zone (omega (arith, size-most, L .frame)) (rw (is .0) (D .octets (a .desk) (L .desk))) (desk-fits L)
-                  ∙ ap (λ (i : ℕ). withHeld desks (a .desk) (part (8198 * a .desk) i desks ++ zone)) (is .0);
-              stored = refl;
-              listed = sym (put-nil list (3 * 0));
-            })
+    pub drops : {k : ℕ} → f ≡ Dropped k → reading (heldAt s desks (a .desk)) zone (a .pointer) ≡ atPointer (bare k ∷ []) zone (a .pointer)
+    drops g = fate-dropped (heldAt s desks (a .desk)) zone (a .pointer) some (omega (arith, L .frame)) (sym fate-here ∙ g)
 
-        pub tells-onward : size - held ≤ 884 → {r : Told} {stored listed : List ℕ}
-            → TellsJudged (judged c s store (take (8198 * a .desk + size - 8198 * a .desk) (drop (8198 * a .desk) written))) 0 list r stored listed
-            → {d : Done} {desks₁ store₁ list₁ : List ℕ}
-            → Tells (walkedFrom c (r .station) written stored a [] (drop (size - held) zone)) (r .events) listed d desks₁ store₁ list₁
-            → Tells (carried c s desks store zone a) 0 list d desks₁ store₁ list₁
-        tells-onward l u t =
-            let xs = heldAt s desks (a .desk) in
-            let p = take (8198 * a .desk + size - 8198 * a .desk) (drop (8198 * a .desk) written) in
-            let j = judged c s store p in
-            let rest = drop (size - held) zone in
-            tells-as
-            (ap (λ (v : Reading). walkedFrom c s desks store a (v .events) (v .octets)) (O .reads)
-            ∙ from-carried c s desks store a [] xs zone (O .looks) (size - held) lacked (omega (arith, L .frame))
-            ∙ ap (λ (q : List ℕ). walkedFrom c (judged c s store q .station) desks (judged c s store q .store) a (judged c s store q .events) rest) (sym (packet-desk l))
-            ∙ walked-alike c (j .station) (j .store) a written desks alike (j .events) rest
-            ∙ from-led c (j .station) written (j .store) a (j .events) rest)
-            (tells-led (j .events) (rw (u .station, u .events, u .wrote, u .listed) at t))
+    pub goes-on : {size : ℕ} → f ≡ CarriedOn size → Onward (heldAt s desks (a .desk)) zone (a .pointer) size
+    goes-on g = fate-onward (heldAt s desks (a .desk)) zone (a .pointer) some (omega (arith, L .frame)) (sym fate-here ∙ g)
 
-        -- what the rest of the zone is walked with
-        module _ {r : Told} {stored listed : List ℕ}
-            (u : TellsJudged (judged c s store (take (8198 * a .desk + size - 8198 * a .desk) (drop (8198 * a .desk) written))) 0 list r stored listed) where
-          pub rest-lent : Sized s → Lent c (r .station) a zone written stored listed
-          rest-lent z = lent-judged L written-length z (take (8198 * a .desk + size - 8198 * a .desk) (drop (8198 * a .desk) written)) u
+  module _ {size : ℕ} (O : Onward (heldAt s desks (a .desk)) zone (a .pointer) size) where
+    pub lacking : held < size
+    lacking = omega (arith, lacks-some (O .header) (O .looks), O .sized)
 
-          pub rest-few : 3 * r .events ≤ size - held + 8
-          rest-few =
-              omega (
-                arith,
-                lacking,
-                u .events,
-                three c s store (take (8198 * a .desk + size - 8198 * a .desk) (drop (8198 * a .desk) written)),
-              )
+    pub size-most : size ≤ 8198
+    size-most = omega (arith, look-good (heldAt s desks (a .desk) ++ zone) (O .header) (O .looks) .largest, O .sized)
+
+    lacked : length (heldAt s desks (a .desk)) + (size - held) ≡ sizeOf (O .header)
+    lacked = omega (arith, long, lacking, O .sized)
+
+    packet-desk : size - held ≤ 884 → deskTo a (8198 * a .desk + size) (J .written) ≡ heldAt s desks (a .desk) ++ take (size - held) zone
+    packet-desk l =
+        let k : 8198 * a .desk + size - 8198 * a .desk ≡ held + (size - held) = omega (arith, lacking) in
+        ap (λ (n : ℕ). part (8198 * a .desk) n (J .written)) k ∙ on-desk (size - held) (omega (arith, J .most, size-most, lacking))
+
+    pub whole-desk : size - held ≤ 884 → Whole (deskTo a (8198 * a .desk + size) (J .written))
+    whole-desk l =
+        rw (packet-desk l)
+        (carried-packet (heldAt s desks (a .desk)) zone (O .looks) (size - held) lacked (omega (arith, L .frame)))
+
+    -- "What is left unfinished at the zone's end is held."
+    pub tells-longer : 884 < size - held → {d : Done} → d ≡ leaves s a (held + 884) 0 → Tells (carried c s desks store zone a) 0 list d (J .written) store list
+    unfolding flat flatMap
+    tells-longer l t =
+        let xs = heldAt s desks (a .desk) in
+        let k : held + 884 ≡ length (xs ++ zone) = omega (arith, length-append xs zone, long, L .frame) in
+        let n : J .more ≡ 884 = omega (arith, J .most, size-most, lacking) in
+        let all : take (J .more) zone ≡ zone = take-all (J .more) zone (omega (arith, L .frame)) in
+        rw t
+        (tells-as
+        (ap (λ (v : Reading). walkedFrom c s desks store a (v .events) (v .octets)) (O .reads)
+        ∙ from-longer c s desks store a [] xs zone (O .looks) (size - held) lacked (omega (arith, L .frame)))
+        (record {
+          station = ap (λ (i : ℕ). leaves s a i 0 .station) k;
+          events = refl;
+          desked =
+              J .wrote ∙ ap (put desks (8198 * a .desk + held)) all
+              ∙ more-held desks (a .desk) held zone (omega (arith, size-most, L .frame))
+              (rw (J .carrying .here) (J .carrying .orderly .octets (a .desk) (L .desk))) (desk-fits L)
+              ∙ ap (λ (i : ℕ). withHeld desks (a .desk) (part (8198 * a .desk) i desks ++ zone)) (J .carrying .here);
+          stored = refl;
+          listed = sym (put-nil list (3 * 0));
+        }))
+
+    -- the packet was judged: what the rest of the zone is walked with, and what comes of all
+    module _ {r : Told} {stored listed : List ℕ}
+        (u : TellsJudged (judged c s store (deskTo a (8198 * a .desk + size) (J .written))) 0 list r stored listed) where
+      pub rest-lent : Sized s → Lent c (r .station) a zone (J .written) stored listed
+      rest-lent z = lent-judged L written-length z (deskTo a (8198 * a .desk + size) (J .written)) u
+
+      pub rest-few : 3 * r .events ≤ size - held + 8
+      rest-few = omega (arith, lacking, u .events, three c s store (deskTo a (8198 * a .desk + size) (J .written)))
+
+      pub tells-onward : size - held ≤ 884 → {d : Done} {desks₁ store₁ list₁ : List ℕ}
+          → Tells (walkedFrom c (r .station) (J .written) stored a [] (drop (size - held) zone)) (r .events) listed d desks₁ store₁ list₁
+          → Tells (carried c s desks store zone a) 0 list d desks₁ store₁ list₁
+      tells-onward l t =
+          let xs = heldAt s desks (a .desk) in
+          let j = judged c s store (deskTo a (8198 * a .desk + size) (J .written)) in
+          let rest = drop (size - held) zone in
+          tells-as
+          (ap (λ (v : Reading). walkedFrom c s desks store a (v .events) (v .octets)) (O .reads)
+          ∙ from-carried c s desks store a [] xs zone (O .looks) (size - held) lacked (omega (arith, L .frame))
+          ∙ ap (λ (q : List ℕ). walkedFrom c (judged c s store q .station) desks (judged c s store q .store) a (judged c s store q .events) rest) (sym (packet-desk l))
+          ∙ walked-alike c (j .station) (j .store) a (J .written) desks alike (j .events) rest
+          ∙ from-led c (j .station) (J .written) (j .store) a (j .events) rest)
+          (tells-led (j .events) (rw (u .station, u .events, u .wrote, u .listed) at t))
 
 -- a frame that is not refused, by its cases
 module _ (c : Channel) (s : Station) (desks store zone : List ℕ) (a : Accepted) {g : Bool} (e : g ≡ gap (deskAt s (a .desk)) (a .counter)) where

@@ -1,75 +1,25 @@
 -- A desk as the code sets it in order, store by store. Assumes nothing.
-use mathlib.Core.Path.{_≡_, refl, sym, ap, ap₂, _∙_}
+use mathlib.Core.Path.{_≡_, sym, ap, ap₂, _∙_}
 use mathlib.Core.Bool.{true, _||_}
 use mathlib.Core.Logic.{inl}
-use mathlib.Core.List.{List, [], _∷_, _++_, append-assoc}
-use Prim.Native.Nat.{ℕ, zero, suc, _+_, _-_, _*_, _≤_, _<_}
-use native.Mathlib.Nat.{sub-zero}
-use native.Mathlib.Decide.{ℕ-discrete}
+use mathlib.Core.List.{List, _++_, append-assoc}
+use Prim.Native.Nat.{ℕ, _+_, _-_, _*_, _≤_}
 use native.Mathlib.Omega.{arith}
 use lib.Dec.{ltb}
-use lib.ListN.{length, take, drop, set, replicate, length-append, length-drop, length-replicate, take-append-drop}
-use lib.Seq.{sets, set-set, set-comm, take-take, length-take-le}
+use lib.ListN.{length, take, drop, replicate, length-append, length-drop, length-replicate, take-append-drop}
+use lib.Seq.{take-take, length-take-le}
 use Rattle.octets.specs.Number.{part}
 use Rattle.octets.specs.Buffer.{put, allZero}
-use Rattle.octets.proofs.Lists.{whole-part, part-add, three-parts}
-use Rattle.octets.proofs.Put.{put-put, put-parts, part-put-in, part-put-out}
+use Rattle.octets.proofs.Lists.{whole-part, part-add, drop-replicate}
+use Rattle.octets.proofs.Put.{put-put, part-put-in, part-put-out, put-front, put-under, put-again}
 use Rattle.octets.proofs.Zero.{blank-zeros}
 use Rattle.octets.proofs.Decide.{tells}
+use Rattle.octets.proofs.Tests.{and-left}
 use Rattle.packet.specs.Header.{lookOf}
 use Rattle.state.specs.Sound.{OctetsHeld, deskOctets}
 use Rattle.state.specs.Decision.{longer, octetsHeld}
-use Rattle.state.proofs.Each.{and-left}
 use Rattle.state.proofs.Exactly.{octets-exactly}
 use Rattle.zone.specs.Walk.{withHeld}
-
--- a store before a run of stores behind it
-set-before : (es xs : List ℕ) (a b v : ℕ) → a < b → set (put xs b es) a v ≡ put (set xs a v) b es
-unfolding put
-set-before [] xs a b v l = refl
-set-before (e ∷ es) xs a b v l =
-    set-before es (set xs b e) a (suc b) v (omega arith) ∙ ap (λ (ys : List ℕ). sets ys (suc b) es) (set-comm xs b a e v (λ q. omega arith))
-
--- a run of stores over the front of another
-pub put-front : (fs es xs : List ℕ) (a : ℕ) → length fs ≤ length es → put (put xs a es) a fs ≡ put xs a (fs ++ drop (length fs) es)
-unfolding put
-put-front [] es xs a l = refl
-put-front (f ∷ fs) [] xs a l = absurd (omega arith)
-put-front (f ∷ fs) (e ∷ es) xs a l =
-    ap (λ (ys : List ℕ). sets ys (suc a) fs)
-    (set-before es (set xs a e) a (suc a) f (omega arith) ∙ ap (λ (ys : List ℕ). sets ys (suc a) es) (set-set xs a e f))
-    ∙ put-front fs es (set xs a f) (suc a) (omega arith)
-
--- a run of stores all over another
-set-under : (fs xs : List ℕ) (a b v : ℕ) → a ≤ b → b < a + length fs → put (set xs b v) a fs ≡ put xs a fs
-unfolding put
-set-under [] xs a b v l m = absurd (omega arith)
-set-under (f ∷ fs) xs a b v l m =
-    elim (ℕ-discrete b a) [
-      | yes e ↦ ap (λ (ys : List ℕ). sets ys (suc a) fs) (rw e (set-set xs a v f))
-      | no n ↦ ap (λ (ys : List ℕ). sets ys (suc a) fs) (set-comm xs b a v f n) ∙ set-under fs (set xs a f) (suc a) b v (omega arith) (omega arith)
-    ]
-
-pub put-under : (es fs xs : List ℕ) (a b : ℕ) → a ≤ b → b + length es ≤ a + length fs → put (put xs b es) a fs ≡ put xs a fs
-unfolding put
-put-under [] fs xs a b l m = refl
-put-under (e ∷ es) fs xs a b l m =
-    put-under es fs (set xs b e) a (suc b) (omega arith) (omega arith) ∙ set-under fs xs a b e l (omega arith)
-
--- what stands there already
-pub put-again : (xs : List ℕ) (a n : ℕ) → a + n ≤ length xs → put xs a (part a n xs) ≡ xs
-put-again xs a n l =
-    let k = whole-part xs a n l in
-    put-parts xs a (part a n xs) (omega arith) ∙ ap (λ (m : ℕ). take a xs ++ part a n xs ++ drop (a + m) xs) k ∙ three-parts xs a n
-
-drop-same : (m n v : ℕ) → drop m (replicate n v) ≡ replicate (n - m) v
-drop-same zero n v = rw sub-zero
-drop-same (suc m) zero v =
-    let k : 0 - suc m ≡ 0 = omega arith in
-    rw k
-drop-same (suc m) (suc n) v =
-    let k : suc n - suc m ≡ n - m = omega arith in
-    rw k (drop-same m n v)
 
 -- "zeros after them"
 zeros-behind : (h : ℕ) (d : List ℕ) → OctetsHeld h d → (n : ℕ) → length d ≡ n → 6 ≤ n → drop h d ≡ replicate (n - h) 0
@@ -83,7 +33,7 @@ zeros-behind h d o n k six =
 blank-written : (n a : ℕ) (xs ys : List ℕ) → length ys ≤ n → put (put xs a (replicate n 0)) a ys ≡ put xs a (ys ++ replicate (n - length ys) 0)
 blank-written n a xs ys l =
     put-front ys (replicate n 0) xs a (omega (arith, length-replicate {A = ℕ} n 0))
-    ∙ ap (λ (zs : List ℕ). put xs a (ys ++ zs)) (drop-same (length ys) n 0)
+    ∙ ap (λ (zs : List ℕ). put xs a (ys ++ zs)) (drop-replicate (length ys) n 0)
 
 module _ (n a : ℕ) (xs : List ℕ) (h : ℕ) (es : List ℕ) (fits : h + length es ≤ n) where
   -- written all over: what was written into it before is gone

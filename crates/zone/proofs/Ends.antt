@@ -10,14 +10,14 @@ use Rattle.octets.proofs.Lists.{whole-rest}
 use Rattle.octets.proofs.Put.{put-nil, length-put}
 use Rattle.frame.specs.declared.Accepted.{Accepted}
 use Rattle.frame.specs.declared.Channel.{Channel}
-use Rattle.state.specs.declared.Desk.{Desk}
 use Rattle.state.specs.declared.Station.{Station}
 use Rattle.judge.specs.Event.{Event, bare, flat}
 use Rattle.judge.proofs.Flat.{flat-behind}
+use Rattle.zone.specs.declared.Done.{Done}
 use Rattle.zone.specs.declared.Stop.{Stop}
 use Rattle.zone.specs.Zone.{Split, split}
-use Rattle.zone.specs.Walk.{judgedAll, withDesk, withHeld, badEvents, walkedFrom}
-use Rattle.zone.specs.Contract.{Lent, Going, Tells, Stops}
+use Rattle.zone.specs.Walk.{judgedAll, withHeld, badEvents, walkedFrom}
+use Rattle.zone.specs.Contract.{Lent, Going, leaves, Tells, Stops}
 use Rattle.zone.proofs.Split.{Cuts, split-cuts}
 use Rattle.zone.proofs.Split.Cuts.{at-end, at-bad}
 use Rattle.zone.proofs.Desks.{blank-held}
@@ -27,10 +27,6 @@ use Rattle.zone.proofs.Walks.{from-spent}
 bad-none : {xs : List ℕ} {sp : Split} → Cuts xs sp → sp .bad ≡ true → sp .left ≡ []
 bad-none (at-end b e) f = absurd (true≢false (sym f ∙ b))
 bad-none (at-bad b l rest q e) f = l
-
--- the desk's record after the frame
-abbrev pub deskAfter : Accepted → ℕ → Desk
-deskAfter a n = record { held = n; seen = true; counter = a .counter }
 
 -- the desk is one of eight, and lies in the octets lent
 module _ {c : Channel} {s : Station} {a : Accepted} {zone desks store list : List ℕ} (L : Lent c s a zone desks store list) where
@@ -64,18 +60,19 @@ module _ {c : Channel} {s : Station} {zone : List ℕ} {from : ℕ} {store₀ : 
         length-drop from zone,
       )
 
-  module _ (a : Accepted) (desks : List ℕ) {t : Station} {desked : List ℕ} where
+  module _ (a : Accepted) (desks : List ℕ) {d : Done} {desked : List ℕ} where
     ends : (es : List Event) → badEvents (split (drop from zone) .bad) ≡ es → (left : List ℕ) → split (drop from zone) .left ≡ left
-        → t ≡ withDesk (r .station) (a .desk) (deskAfter a (length left)) → desked ≡ withHeld desks (a .desk) left
-        → {m : ℕ} {listed : List ℕ} → m ≡ r .events + length es → listed ≡ put list (3 * r .events) (flat es)
-        → Tells (walkedFrom c s desks store₀ a [] (drop from zone)) n list₀ (record { station = t; events = m }) desked store listed
-    ends es e left k t d m l =
+        → {m : ℕ} → d ≡ leaves (r .station) a (length left) m → desked ≡ withHeld desks (a .desk) left
+        → {listed : List ℕ} → m ≡ r .events + length es → listed ≡ put list (3 * r .events) (flat es)
+        → Tells (walkedFrom c s desks store₀ a [] (drop from zone)) n list₀ d desked store listed
+    ends es e left k {m} t w q l =
         let sp = split (drop from zone) in
         let j = judgedAll c s store₀ (sp .packets) in
+        rw t
         record {
-          station = t ∙ ap₂ (λ (u : Station) (xs : List ℕ). withDesk u (a .desk) (deskAfter a (length xs))) (S .told .station) (sym k);
-          events = m ∙ omega (arith, S .told .events, length-append (j .events) (badEvents (sp .bad)), ap length e);
-          desked = d ∙ ap (withHeld desks (a .desk)) (sym k);
+          station = ap₂ (λ (u : Station) (xs : List ℕ). leaves u a (length xs) m .station) (S .told .station) (sym k);
+          events = q ∙ omega (arith, S .told .events, length-append (j .events) (badEvents (sp .bad)), ap length e);
+          desked = w ∙ ap (withHeld desks (a .desk)) (sym k);
           stored = S .told .wrote;
           listed =
               l
@@ -84,24 +81,24 @@ module _ {c : Channel} {s : Station} {zone : List ℕ} {from : ℕ} {store₀ : 
               ∙ ap (λ (fs : List Event). put list₀ (3 * n) (flat (j .events ++ fs))) (sym e);
         }
 
-    pub ends-bad : r .bad ≡ true → t ≡ withDesk (r .station) (a .desk) (deskAfter a 0) → desked ≡ put desks (8198 * a .desk) (replicate 8198 0)
-        → {m : ℕ} {listed : List ℕ} → m ≡ r .events + 1 → listed ≡ put list (3 * r .events) (3 ∷ 0 ∷ 0 ∷ [])
-        → Tells (walkedFrom c s desks store₀ a [] (drop from zone)) n list₀ (record { station = t; events = m }) desked store listed
+    pub ends-bad : r .bad ≡ true → {m : ℕ} → d ≡ leaves (r .station) a 0 m → desked ≡ put desks (8198 * a .desk) (replicate 8198 0)
+        → {listed : List ℕ} → m ≡ r .events + 1 → listed ≡ put list (3 * r .events) (3 ∷ 0 ∷ 0 ∷ [])
+        → Tells (walkedFrom c s desks store₀ a [] (drop from zone)) n list₀ d desked store listed
     unfolding flat flatMap
-    ends-bad b t d m l =
+    ends-bad b t w q l =
         let f = sym (S .bad) ∙ b in
-        ends (bare 3 ∷ []) (ap badEvents f) [] (bad-none (split-cuts (drop from zone)) f) t d m l
+        ends (bare 3 ∷ []) (ap badEvents f) [] (bad-none (split-cuts (drop from zone)) f) t w q l
 
-    pub ends-left : r .bad ≡ false → length zone ≡ 884 → t ≡ withDesk (r .station) (a .desk) (deskAfter a (length zone - r .at))
+    pub ends-left : r .bad ≡ false → length zone ≡ 884 → d ≡ leaves (r .station) a (length zone - r .at) (r .events)
         → {blanked : List ℕ} → blanked ≡ put desks (8198 * a .desk) (replicate 8198 0)
         → desked ≡ put blanked (8198 * a .desk) (take (length zone - r .at) (drop (r .at) zone))
-        → Tells (walkedFrom c s desks store₀ a [] (drop from zone)) n list₀ (record { station = t; events = r .events }) desked store list
+        → Tells (walkedFrom c s desks store₀ a [] (drop from zone)) n list₀ d desked store list
     unfolding flat flatMap
-    ends-left b size t z d =
+    ends-left b size t z w =
         let left = drop (r .at) zone in
         let k = length-drop (r .at) zone in
         ends [] (ap badEvents (sym (S .bad) ∙ b)) left (sym (S .left b))
-        (t ∙ ap (λ (i : ℕ). withDesk (r .station) (a .desk) (deskAfter a i)) (sym k))
-        (d ∙ ap₂ (λ (xs ys : List ℕ). put xs (8198 * a .desk) ys) z (whole-rest zone (r .at))
+        (t ∙ ap (λ (i : ℕ). leaves (r .station) a i (r .events)) (sym k))
+        (w ∙ ap₂ (λ (xs ys : List ℕ). put xs (8198 * a .desk) ys) z (whole-rest zone (r .at))
         ∙ blank-held desks (a .desk) left (omega arith))
         (omega arith) (sym (put-nil list (3 * r .events)))

@@ -15,7 +15,8 @@ use Rattle.packet.specs.declared.Look.{Look}
 use Rattle.packet.specs.declared.Look.the-variants.{Short, Bad, Good}
 use Rattle.packet.specs.Header.{lookOf, sizeOf}
 use Rattle.state.specs.declared.Station.{Station}
-use Rattle.state.specs.Sound.{Sound}
+use Rattle.state.specs.Slots.{deskAt}
+use Rattle.state.specs.Sound.{Sound, DesksSound}
 use Rattle.judge.specs.Event.{flat}
 use Rattle.judge.specs.Contract.{Watched, Tells as TellsJudged}
 use Rattle.zone.specs.declared.Done.{Done}
@@ -25,7 +26,7 @@ use Rattle.zone.specs.declared.Next.{Next}
 use Rattle.zone.specs.declared.Next.the-variants.{Take, End}
 use Rattle.zone.specs.declared.Stop.{Stop}
 use Rattle.zone.specs.Zone.{split, Reading, agrees, reading}
-use Rattle.zone.specs.Walk.{judgedAll, heldAt, Walked, walkedFrom}
+use Rattle.zone.specs.Walk.{judgedAll, heldAt, withDesk, deskAfter, Walked, walkedFrom}
 
 -- a sound station with its desks and its store, the zone of a frame for one of its desks, and an event list of the size that is asked for
 pub record Lent (c : Channel) (s : Station) (a : Accepted) (zone desks store list : List ℕ) : Type 0 where
@@ -47,6 +48,13 @@ pub record Going (c : Channel) (s : Station) (zone : List ℕ) (from : ℕ) (sto
   pub listed : 900 ≤ length list
   pub few : 3 * n ≤ from + 8
 
+-- "If octets are held": what is lent for a frame, with so many held on its desk
+pub record Carrying (c : Channel) (s : Station) (a : Accepted) (held : ℕ) (zone desks store list : List ℕ) : Type 0 where
+  pub lent : Lent c s a zone desks store list
+  pub orderly : DesksSound s desks
+  pub here : held ≡ deskAt s (a .desk) .held
+  pub some : 0 < held
+
 -- place in the zone at which reading begins: 884, its end, for nowhere
 unfoldable pub startAt : Pointer → ℕ
 startAt (Offset p) = p
@@ -61,6 +69,10 @@ nextBy (Good h) n = if ltb n (sizeOf h) then End false else Take (sizeOf h)
 
 abbrev pub nextOf : List ℕ → Next
 nextOf xs = nextBy (lookOf xs) (length xs)
+
+-- what comes of a frame that leaves so many octets on its desk
+abbrev pub leaves : Station → Accepted → ℕ → ℕ → Done
+leaves s a held n = record { station = withDesk s (a .desk) (deskAfter a held); events = n }
 
 -- what becomes of a held packet, by what stands at its start: dropped with an event, or carried on with its size
 unfoldable pub fateOf : Look → ℕ → ℕ → Fate

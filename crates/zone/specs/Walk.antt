@@ -59,6 +59,10 @@ withDesk s i d =
       slots = s .slots;
     }
 
+-- a desk after a frame: so many octets held, a frame seen, and "this counter is now the last"
+abbrev pub deskAfter : Accepted → ℕ → Desk
+deskAfter a n = record { held = n; seen = true; counter = a .counter }
+
 -- everything that comes of it
 pub record Walked : Type 0 where
   pub station : Station
@@ -75,7 +79,7 @@ abbrev pub walkedBy : Channel → Station → List ℕ → List ℕ → Accepted
 walkedBy c s desks store a es sp =
     let j : Judged = judgedAll c s store (sp .packets) in
     record {
-      station = withDesk (j .station) (a .desk) (record { held = length (sp .left); seen = true; counter = a .counter });
+      station = withDesk (j .station) (a .desk) (deskAfter a (length (sp .left)));
       desks = withHeld desks (a .desk) (sp .left);
       store = j .store;
       events = es ++ j .events ++ badEvents (sp .bad);

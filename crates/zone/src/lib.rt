@@ -12,17 +12,15 @@ use packet::Packet;
 use state::Desk;
 use state::Station;
 ghost use mathlib.Core.Path.{_≡_};
-ghost use mathlib.Core.Bool.{true};
 ghost use mathlib.Core.List.{[]};
 ghost use Prim.Native.Nat.{min, _+_, _*_, _≤_, _<_};
 ghost use lib.ListN.{length, drop};
 ghost use Rattle.frame.specs.Header.{pointerMeaning};
 ghost use Rattle.packet.specs.Header.{sizeOf, lookOf};
-ghost use Rattle.state.specs.Slots.{deskAt};
 ghost use Rattle.state.specs.Sound.{DesksSound};
 ghost use Rattle.zone.specs.Zone.{agrees as agreesOf};
-ghost use Rattle.zone.specs.Walk.{gap as gapOf, withDesk, walked, walkedFrom};
-ghost use Rattle.zone.specs.Contract.{Lent, Going, startAt, nextOf, fateOf, Tells, Stops, carried};
+ghost use Rattle.zone.specs.Walk.{gap as gapOf, walked, walkedFrom};
+ghost use Rattle.zone.specs.Contract.{Lent, Going, Carrying, startAt, nextOf, leaves, fateOf, Tells, Stops, carried};
 
 // The state afterwards, and how many events the list has.
 pub struct Done {
@@ -137,18 +135,23 @@ fn walk(
     }
 }
 
-// The station with a desk that holds so many octets, after a frame with this counter.
-fn with_desk(s: Station, desk: usize, held: u16, counter: Counter) -> Station
-    requires { ⌜ desk < 8 ⌝ }
-    ensures { λ r. ⌜ r ≡ withDesk s desk (record { held = held; seen = true; counter = counter }) ⌝ }
+// How the frame leaves the station: its desk holds so many octets, and "this counter is now the last".
+fn leave(s: Station, a: Accepted, held: u16, told: usize) -> Done
+    requires { ⌜ a .desk < 8 ⌝ }
+    ensures { λ r. ⌜ r ≡ leaves s a held told ⌝ }
 {
+    let desk = a.desk;
+    let counter = a.counter;
     let mut t = s;
     t.desks[desk] = Desk {
         held: held,
         seen: true,
         counter: counter,
     };
-    t
+    Done {
+        station: t,
+        events: told,
+    }
 }
 
 // The zone walked from a place on, and the desk put in order behind it.
@@ -170,22 +173,15 @@ fn walk_rest(
     let base = Desk::SIZE * a.desk;
     let w = walk(channel, s, zone, from, store, list, n);
     octets::blank(desks, base, Desk::SIZE);
-    let counter = a.counter;
     let station = w.station;
     if w.bad {
         let m = judge::emit(list, w.events, 3, 0, 0);
-        return Done {
-            station: with_desk(station, a.desk, 0, counter),
-            events: m,
-        };
+        return leave(station, a, 0, m);
     }
     let at = w.at;
     let left = zone.len() - at;
     octets::copy(&zone[at..], desks, base);
-    Done {
-        station: with_desk(station, a.desk, left as u16, counter),
-        events: w.events,
-    }
+    leave(station, a, left as u16, w.events)
 }
 
 // What becomes of a held packet: it is dropped, with an event of this kind, or carried on, and has this size.
@@ -227,9 +223,7 @@ fn carry_on(
     store: &mut [u8],
     list: &mut [u16],
 ) -> Done
-    requires { ⌜ Lent channel s a (now zone) (now desks) (now store) (now list) ⌝ }
-    requires { ⌜ DesksSound s (now desks) ⌝ }
-    requires { ⌜ (held ≡ deskAt s (a .desk) .held) × (0 < held) ⌝ }
+    requires { ⌜ Carrying channel s a held (now zone) (now desks) (now store) (now list) ⌝ }
     ensures { λ r. ⌜ Tells (carried channel s (now (desks .entry)) (now (store .entry)) (now (zone .entry)) a) 0 (now (list .entry)) r (now (desks .exit)) (now (store .exit)) (now (list .exit)) ⌝ }
 {
     let base = Desk::SIZE * a.desk;
@@ -246,13 +240,9 @@ fn carry_on(
         }
         Fate::CarriedOn(size) => {
             let lacked = size - held;
-            let counter = a.counter;
             if lacked > Frame::ZONE {
                 let all = held + Frame::ZONE;
-                return Done {
-                    station: with_desk(s, a.desk, all as u16, counter),
-                    events: 0,
-                };
+                return leave(s, a, all as u16, 0);
             }
             let last = base + size;
             let told = judge::judge(channel, s, &desks[base..last], store, list, 0);

@@ -4,7 +4,7 @@ use Prim.Native.Nat.{_-_}
 use native.Mathlib.Omega.{arith}
 use borrow.Author.Needs.{needs}
 use lib.ListN.{length-set}
-use Rattle.judge.proofs.Writing.{put-three}
+use Rattle.octets.proofs.Put.{put-three}
 use Rattle.judge.proofs.emit.Statement.{statement}
 use Rattle.judge.proofs.emit.Tie as tie
 

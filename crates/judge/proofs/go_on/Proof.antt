@@ -5,7 +5,7 @@ use Prim.Native.Nat.{_-_}
 use native.Mathlib.Omega.{arith}
 use borrow.Author.Needs.{needs}
 use Rattle.octets.proofs.Lists.{unmap}
-use Rattle.packet.proofs.Tests.{denied, granted}
+use Rattle.octets.proofs.Tests.{denied, granted}
 use Rattle.state.specs.Sound.{Sized}
 use Rattle.state.proofs.Places.{need-fits}
 use Rattle.room.specs.declared.Found.the-variants.{At}

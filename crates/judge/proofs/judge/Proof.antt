@@ -7,8 +7,8 @@ use borrow.Author.Needs.{needs}
 use lib.Dec.{eqb}
 use lib.ListN.{length}
 use Rattle.octets.specs.Number.{part}
+use Rattle.octets.proofs.Tests.{denied, granted}
 use Rattle.packet.specs.Header.{packetOf}
-use Rattle.packet.proofs.Tests.{denied, granted}
 use Rattle.judge.specs.Judge.{dataOf, checkOf}
 use Rattle.judge.proofs.Parts.{judged-fill, judged-other, judged-damaged, judged-starts, judged-later, data-cut, data-few}
 use Rattle.judge.proofs.Flat.{tells-none, tells-one}

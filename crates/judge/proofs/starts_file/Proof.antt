@@ -1,6 +1,6 @@
 -- `judge::starts_file` meets its contract, by its test. Assumes nothing.
 use Prim.Native.Nat.{_-_}
-use Rattle.packet.proofs.Tests.{tests}
+use Rattle.octets.proofs.Tests.{tests}
 use Rattle.judge.proofs.starts_file.Statement.{statement}
 use Rattle.judge.proofs.starts_file.Tie as tie
 

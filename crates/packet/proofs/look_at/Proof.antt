@@ -1,8 +1,8 @@
 -- `packet::look_at` meets its contract, by its tests and the contracts of `read` and `is_bad`. Assumes nothing.
 use borrow.Author.Needs.{needs}
 use borrow.Author.Tests.{le-ltb}
+use Rattle.octets.proofs.Tests.{tests}
 use Rattle.packet.specs.Header.{lookOf}
-use Rattle.packet.proofs.Tests.{tests}
 use Rattle.packet.proofs.look_at.Statement.{statement}
 use Rattle.packet.proofs.look_at.Tie as tie
 

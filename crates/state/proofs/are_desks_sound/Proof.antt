@@ -12,13 +12,13 @@ use lib.Seq.{length-take-le, getD-take}
 use Rattle.octets.specs.Each.{each}
 use Rattle.octets.specs.Number.{part}
 use Rattle.octets.proofs.Decide.{told-true}
+use Rattle.octets.proofs.Each.{each-at}
 use Rattle.octets.proofs.Lists.{whole-part, unmap}
-use Rattle.packet.proofs.Tests.{denied, granted}
+use Rattle.octets.proofs.Tests.{denied, granted}
 use Rattle.state.specs.declared.Desk.{Desk}
 use Rattle.state.specs.Slots.{emptyDesk}
 use Rattle.state.specs.Sound.{deskOctets}
 use Rattle.state.specs.Decision.{desksHeld, deskHolds}
-use Rattle.state.proofs.Each.{each-at}
 use Rattle.state.proofs.Exactly.{desk-exactly}
 use Rattle.state.proofs.Walk.{Left, begins, settled, passed, ended}
 use Rattle.state.proofs.are_desks_sound.Statement.{statement}

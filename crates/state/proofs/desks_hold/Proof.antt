@@ -7,7 +7,7 @@ use borrow.Author.Needs.{needs}
 use lib.ListN.{take}
 use Rattle.octets.specs.Each.{each}
 use Rattle.octets.proofs.Lists.{unmap}
-use Rattle.packet.proofs.Tests.{denied, granted}
+use Rattle.octets.proofs.Tests.{denied, granted}
 use Rattle.state.specs.Slots.{emptyDesk}
 use Rattle.state.specs.Decision.{deskHolds}
 use Rattle.state.proofs.Walk.{Left, begins, settled, passed, ended}

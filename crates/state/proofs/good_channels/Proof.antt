@@ -8,7 +8,7 @@ use native.Mathlib.Omega.{arith}
 use borrow.Author.Needs.{needs}
 use borrow.Author.Tests.{le-leb, lt-leb}
 use lib.ListN.{length}
-use Rattle.packet.proofs.Tests.{tests}
+use Rattle.octets.proofs.Tests.{tests}
 use Rattle.state.specs.Decision.{among, distinctChannels, goodChannels}
 use Rattle.state.proofs.Walk.{Left, begins-at, behind, settled, passed, ended}
 use Rattle.state.proofs.good_channels.Statement.{statement}

@@ -7,7 +7,7 @@ use native.Mathlib.Omega.{arith}
 use borrow.Author.Needs.{needs}
 use borrow.Author.Tests.{lt-leb, le-leb, lt-ltb, le-ltb}
 use lib.Dec.{eqb}
-use Rattle.packet.proofs.Tests.{denied, granted}
+use Rattle.octets.proofs.Tests.{denied, granted}
 use Rattle.transport.specs.Length.{goodLength}
 use Rattle.state.specs.declared.Slot.{Slot}
 use Rattle.state.specs.Slots.{held, needOf}

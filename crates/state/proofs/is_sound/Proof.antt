@@ -1,27 +1,22 @@
 -- `is_sound` meets its contract: each of the paper's clauses by the contract of the function that decides it. Assumes nothing.
-use mathlib.Core.Path.{_≡_, refl, sym, ap, _∙_}
+use mathlib.Core.Path.{_≡_, sym, _∙_}
 use mathlib.Core.Bool.{true, false, _&&_}
-use mathlib.Core.List.{List, [], _∷_, map}
-use Prim.Native.Nat.{ℕ, suc, _-_, _≤_, zero}
+use mathlib.Core.List.{List, map}
+use Prim.Native.Nat.{ℕ, _-_, _≤_}
 use borrow.Author.Needs.{needs}
 use borrow.Author.Tests.{leb-true}
 use lib.Dec.{leb}
 use lib.ListN.{take}
 use Rattle.octets.specs.Each.{each}
-use Rattle.packet.proofs.Tests.{denied, granted}
+use Rattle.octets.proofs.Lists.{take-map}
+use Rattle.octets.proofs.Tests.{denied, granted, and-left, and-right}
 use Rattle.state.specs.declared.Station.{Station}
 use Rattle.state.specs.Slots.{number, named}
 use Rattle.state.specs.Blocks.{table}
 use Rattle.state.specs.Decision.{goodChannels, setUpSound, isOwner, blockCounts, slotsSound, noTwins, deskHolds, isSound}
-use Rattle.state.proofs.Each.{and-left, and-right}
 use Rattle.state.proofs.Walk.{from-zero}
 use Rattle.state.proofs.is_sound.Statement.{statement}
 use Rattle.state.proofs.is_sound.Tie as tie
-
-take-map : {A B : Type 0} (f : A → B) (n : ℕ) (xs : List A) → take n (map f xs) ≡ map f (take n xs)
-take-map f zero xs = refl
-take-map f (suc n) [] = refl
-take-map f (suc n) (x ∷ xs) = ap (λ (ys : List _). f x ∷ ys) (take-map f n xs)
 
 -- a set-up that is right bounds the channels and the blocks
 module _ (channels : ℕ) (names : List ℕ) (blocks : ℕ) (e : setUpSound channels names blocks ≡ true) where

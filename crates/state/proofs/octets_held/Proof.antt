@@ -12,10 +12,10 @@ use lib.ListN.{length, drop}
 use Rattle.octets.specs.Buffer.{allZero}
 use Rattle.octets.specs.Number.{part}
 use Rattle.octets.proofs.Lists.{whole-rest}
+use Rattle.octets.proofs.Tests.{denied, granted}
 use Rattle.packet.specs.Header.{lookOf}
 use Rattle.packet.specs.declared.Look.{Look}
 use Rattle.packet.proofs.Tags.{look-told}
-use Rattle.packet.proofs.Tests.{denied, granted}
 use Rattle.state.specs.Decision.{octetsHeld, longer}
 use Rattle.state.proofs.octets_held.Statement.{statement}
 use Rattle.state.proofs.octets_held.Tie as tie

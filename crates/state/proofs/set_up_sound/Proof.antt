@@ -8,7 +8,7 @@ use borrow.Author.Needs.{needs}
 use borrow.Author.Tests.{le-leb}
 use lib.Dec.{leb}
 use lib.ListN.{take}
-use Rattle.packet.proofs.Tests.{tests, denied, granted}
+use Rattle.octets.proofs.Tests.{tests, denied, granted}
 use Rattle.state.specs.Decision.{goodChannels, setUpSound}
 use Rattle.state.proofs.Walk.{from-zero}
 use Rattle.state.proofs.set_up_sound.Statement.{statement}

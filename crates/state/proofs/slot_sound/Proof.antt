@@ -1,6 +1,6 @@
 -- `slot_sound` meets its contract: a free slot by its tests, a held one by the contract of `held_sound`. Assumes nothing.
 use borrow.Author.Tests.{ne-eqb}
-use Rattle.packet.proofs.Tests.{tests}
+use Rattle.octets.proofs.Tests.{tests}
 use Rattle.state.specs.Slots.{held}
 use Rattle.state.specs.Decision.{slotSound}
 use Rattle.state.proofs.slot_sound.Statement.{statement}

@@ -10,7 +10,7 @@ use borrow.Author.Needs.{needs}
 use lib.ListN.{length, drop}
 use lib.Seq.{drop-cons}
 use Rattle.octets.proofs.Lists.{unmap}
-use Rattle.packet.proofs.Tests.{denied, granted}
+use Rattle.octets.proofs.Tests.{denied, granted}
 use Rattle.state.specs.Slots.{noFile}
 use Rattle.state.specs.Decision.{slotsSound}
 use Rattle.state.proofs.Walk.{Left, begins-at, settled, passed, ended}

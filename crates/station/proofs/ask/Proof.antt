@@ -1,7 +1,7 @@
 -- `ask` meets its contract, test after test. Assumes nothing.
 use native.Mathlib.Omega.{arith}
 use borrow.Author.Needs.{needs}
-use Rattle.packet.proofs.Tests.{denied, granted}
+use Rattle.octets.proofs.Tests.{denied, granted}
 use Rattle.station.proofs.Asking.{asked-unsound, asked-high, asked-free, asked-complete, asked-incomplete}
 use Rattle.station.proofs.ask.Statement.{statement}
 use Rattle.station.proofs.ask.Tie as tie

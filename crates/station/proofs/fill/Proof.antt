@@ -11,6 +11,7 @@ use lib.Dec.{leb}
 use lib.ListN.{length}
 use Rattle.octets.specs.Number.{part}
 use Rattle.octets.proofs.Lists.{unmap, part-part}
+use Rattle.octets.proofs.Tests.{and-right}
 use Rattle.transport.specs.Length.{octetsOfBits, transportSize}
 use Rattle.transport.proofs.Length.{need-covers}
 use Rattle.state.specs.declared.Station.{Station}
@@ -18,7 +19,6 @@ use Rattle.state.specs.Slots.{slotAt, complete}
 use Rattle.state.specs.Blocks.{numbersOf, table, blocksOf}
 use Rattle.state.specs.Sound.{Sized}
 use Rattle.state.specs.Decision.{isSound}
-use Rattle.state.proofs.Each.{and-right}
 use Rattle.state.proofs.Exactly.{sound-yes}
 use Rattle.room.specs.File.{joined, fileOctets}
 use Rattle.station.specs.Files.{storeFits, readGives, readAs}

@@ -4,7 +4,7 @@ use mathlib.Core.Bool.{true, false}
 use mathlib.Core.List.{List}
 use Prim.Native.Nat.{ℕ}
 use borrow.Author.Needs.{needs}
-use Rattle.packet.proofs.Tests.{denied, granted}
+use Rattle.octets.proofs.Tests.{denied, granted}
 use Rattle.state.specs.declared.Station.{Station}
 use Rattle.station.specs.Files.{storeFits, asked, ReadOutcome, readGives, readAs, readOut}
 use Rattle.station.specs.declared.Asked.{Asked}

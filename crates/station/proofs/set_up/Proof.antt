@@ -9,7 +9,7 @@ use borrow.Author.Tests.{eq-eqb, ne-eqb}
 use lib.ListN.{length, replicate, length-replicate}
 use Rattle.octets.specs.Buffer.{put}
 use Rattle.octets.proofs.Put.{put-whole}
-use Rattle.packet.proofs.Tests.{denied, granted}
+use Rattle.octets.proofs.Tests.{denied, granted}
 use Rattle.state.specs.declared.Station.{Station}
 use Rattle.state.specs.Slots.{allZeroState}
 use Rattle.state.specs.Decision.{goodChannels}

@@ -1,17 +1,47 @@
 -- `take_frame` meets its contract: each refusal in its turn, then the zone walked. Assumes nothing.
-use mathlib.Core.Path.{refl, sym, _∙_}
+use mathlib.Core.Path.{_≡_, refl}
+use mathlib.Core.Bool.{true}
 use native.Mathlib.Omega.{arith}
 use borrow.Author.Needs.{needs}
-use borrow.Author.Tests.{not-true, not-false}
+use lib.ListN.{take}
 use Rattle.octets.proofs.Lists.{unmap}
+use Rattle.octets.proofs.Tests.{denied, granted}
 use Rattle.state.specs.Sound.{Sized}
-use Rattle.station.proofs.Frames.{lent-desks, desks-hold, channels-few, lent-wrong, unsound, desks-unsound, frame-refused, desk-watched, lent-on, desks-on, frame-taken}
+use Rattle.state.specs.Decision.{desksHeld, isSound}
+use Rattle.station.specs.Frame.{lentRight}
+use Rattle.station.proofs.Frames.{lent-desks, desks-hold, channels-few, lent-wrong, unsound, desks-unsound, frame-refused, desk-watched, walk-lent, frame-taken}
 use Rattle.station.proofs.take_frame.Statement.{statement}
 use Rattle.station.proofs.take_frame.Tie as tie
 
 sized : (c : tie.Start) → Sized (c .args .s)
 sized c =
     record { watched = search (needs, unmap); desks = search (needs, unmap); owner = search needs; slots = search (needs, unmap) }
+
+-- what the three tests before the frame is looked at said, where each was passed
+abbrev start : tie.Else1 → tie.Start
+start l = l .before .before .before .before .before .before .before .before .before
+
+lent : (l : tie.Else1) → lentRight (start l .args .s) (start l .args .desks .now) (start l .args .store .now) (start l .args .list .now) ≡ true
+lent l = granted (l .before .lent-right .ensures) (l .if1 .left)
+
+abbrev fits : tie.Else2 → tie.Else1
+fits e = e .before .before
+
+sound : (e : tie.Else2) → isSound (start (fits e) .args .s) ≡ true
+sound e = granted (e .before .is-sound .ensures) (e .if2 .left)
+
+abbrev steady : tie.Else3 → tie.Else2
+steady d = d .before .before .before .before
+
+abbrev begun : tie.Else3 → tie.Start
+begun d = start (fits (steady d))
+
+orderly : (d : tie.Else3) → desksHeld 0 (take (begun d .args .s .channels) (begun d .args .s .desks)) (begun d .args .desks .now) ≡ true
+orderly d = granted (d .before .are-desks-sound .ensures) (d .if3 .left)
+
+-- where a frame that is not refused was examined
+abbrev passed : tie.After-known-told2 → tie.Else3
+passed k = k .before .before .before .before .before .before .before
 
 lent-right-requires : tie.Need-lent-right-requires
 lent-right-requires c κs = search needs
@@ -30,7 +60,7 @@ same-length-3 c = search needs
 
 returns : tie.Need-returns
 returns c =
-    rw (c .refuse .ensures) (lent-wrong _ _ _ _ _ (sym (c .before .before .lent-right .ensures) ∙ not-true _ (c .before .if1 .taken)))
+    rw (c .refuse .ensures) (lent-wrong _ _ _ _ _ (denied (c .before .before .lent-right .ensures) (c .before .if1 .taken)))
 
 is-sound-requires : tie.Need-is-sound-requires
 is-sound-requires c κs = search needs
@@ -49,13 +79,13 @@ same-length-6 c = search needs
 
 returns-2 : tie.Need-returns-2
 returns-2 c =
-    rw (c .refuse2 .ensures) (unsound _ _ _ _ _ (sym (c .before .before .before .before .lent-right .ensures) ∙ not-false _ (c .before .before .before .if1 .left)) (sym (c .before .before .is-sound .ensures) ∙ not-true _ (c .before .if2 .taken)))
+    rw (c .refuse2 .ensures) (unsound _ _ _ _ _ (lent (c .before .before .before)) (denied (c .before .before .is-sound .ensures) (c .before .if2 .taken)))
 
 are-desks-sound-requires : tie.Need-are-desks-sound-requires
 are-desks-sound-requires c κs =
-    let e = (sym (c .before .before .before .is-sound .ensures) ∙ not-false _ (c .before .before .if2 .left)) in
-    let i = c .before .before .before .before .before .before .before .before .before .before .before .before .before in
-    ((channels-few _ (sized i) e, lent-desks (i .args .s) (i .args .desks .now) (i .args .store .now) (i .args .list .now) (sym (c .before .before .before .before .before .lent-right .ensures) ∙ not-false _ (c .before .before .before .before .if1 .left))), desks-hold _ e)
+    let e = c .before .before in
+    let i = start (fits e) in
+    ((channels-few _ (sized i) (sound e), lent-desks (i .args .s) (i .args .desks .now) (i .args .store .now) (i .args .list .now) (lent (fits e))), desks-hold _ (sound e))
 
 refuse-requires-3 : tie.Need-refuse-requires-3
 refuse-requires-3 c κs = search needs
@@ -71,14 +101,16 @@ same-length-9 c = search needs
 
 returns-3 : tie.Need-returns-3
 returns-3 c =
-    rw (c .refuse3 .ensures) (desks-unsound _ _ _ _ _ (sym (c .before .before .before .before .before .before .before .before .lent-right .ensures) ∙ not-false _ (c .before .before .before .before .before .before .before .if1 .left)) (sym (c .before .before .before .before .before .before .is-sound .ensures) ∙ not-false _ (c .before .before .before .before .before .if2 .left)) (sym (c .before .before .are-desks-sound .ensures) ∙ not-true _ (c .before .if3 .taken)))
+    let e = c .before .before .before .before .before in
+    rw (c .refuse3 .ensures) (desks-unsound _ _ _ _ _ (lent (fits e)) (sound e) (denied (c .before .before .are-desks-sound .ensures) (c .before .if3 .taken)))
 
 slice-aggregate-examine : tie.Need-slice-aggregate-examine
 slice-aggregate-examine c = search needs
 
 examine-requires : tie.Need-examine-requires
 examine-requires c κs =
-    (refl, channels-few _ (sized (c .before .before .before .before .before .before .before .before .before .before .before .before .before .before .before .before .before)) (sym (c .before .before .before .before .before .before .before .is-sound .ensures) ∙ not-false _ (c .before .before .before .before .before .before .if2 .left)))
+    let d = c .before .before in
+    (refl, channels-few _ (sized (begun d)) (sound (steady d)))
 
 enum-known-examined : tie.Need-enum-known-examined
 enum-known-examined c = search needs
@@ -97,16 +129,20 @@ same-length-12 c = search needs
 
 returns-4 : tie.Need-returns-4
 returns-4 c =
-    rw (c .refuse4 .ensures) (frame-refused _ _ _ _ _ (sym (c .before .before .before .before .before .before .before .before .before .before .before .before .before .before .before .lent-right .ensures) ∙ not-false _ (c .before .before .before .before .before .before .before .before .before .before .before .before .before .before .if1 .left)) (sym (c .before .before .before .before .before .before .before .before .before .before .before .before .before .is-sound .ensures) ∙ not-false _ (c .before .before .before .before .before .before .before .before .before .before .before .before .if2 .left)) (sym (c .before .before .before .before .before .before .before .before .before .are-desks-sound .ensures) ∙ not-false _ (c .before .before .before .before .before .before .before .before .if3 .left)) (c .before .before .before .before .before .examine .ensures .0) (c .before .before .examined .given .1))
+    let told = c .before .before in
+    let d = c .before .before .before .before .before .before .before .before in
+    rw (c .refuse4 .ensures) (frame-refused _ _ _ _ _ (lent (fits (steady d))) (sound (steady d)) (orderly d) (told .before .before .before .examine .ensures .0) (told .examined .given .1))
 
 enum-known-examined-2 : tie.Need-enum-known-examined-2
 enum-known-examined-2 c = search needs
 
 array-copy-out-channel : tie.Need-array-copy-out-channel
 array-copy-out-channel c =
-    let i = c .before .before .before .before .before .before .before .before .before .before .before .before .before .before .before .before .before .before .before .before .before .before in
+    let d = passed c in
+    let i = begun d in
     let z = sized i in
-    omega (arith, desk-watched (i .args .s) (i .args .desks .now) (i .args .store .now) (i .args .list .now) (i .args .octets .now) (sym (c .before .before .before .before .before .before .before .before .before .before .before .before .before .before .lent-right .ensures) ∙ not-false _ (c .before .before .before .before .before .before .before .before .before .before .before .before .before .if1 .left)) (sym (c .before .before .before .before .before .before .before .before .before .before .before .before .is-sound .ensures) ∙ not-false _ (c .before .before .before .before .before .before .before .before .before .before .before .if2 .left)) (sym (c .before .before .before .before .before .before .before .before .are-desks-sound .ensures) ∙ not-false _ (c .before .before .before .before .before .before .before .if3 .left)) (c .before .before .before .before .examine .ensures .0) (c .before .examined2 .given .1) z, channels-few _ z (sym (c .before .before .before .before .before .before .before .before .before .before .before .before .is-sound .ensures) ∙ not-false _ (c .before .before .before .before .before .before .before .before .before .before .before .if2 .left)), z .watched)
+    let low = desk-watched (i .args .s) (i .args .desks .now) (i .args .store .now) (i .args .list .now) (i .args .octets .now) (lent (fits (steady d))) (sound (steady d)) (orderly d) (c .before .before .before .before .examine .ensures .0) (c .before .examined2 .given .1) z in
+    omega (arith, low, channels-few _ z (sound (steady d)), z .watched)
 
 sub-walk-frame : tie.Need-sub-walk-frame
 sub-walk-frame c = search needs
@@ -119,8 +155,11 @@ part-walk-frame-end c = search needs
 
 walk-frame-requires : tie.Need-walk-frame-requires
 walk-frame-requires c κs =
-    let i = c .before .before .before .before .before .before .before .before .before .before .before .before .before .before .before .before .before .before .before .before .before .before .before .before .before .before .before .before in
-    (lent-on (i .args .s) (i .args .desks .now) (i .args .store .now) (i .args .list .now) (i .args .octets .now) (sym (c .before .before .before .before .before .before .before .before .before .before .before .before .before .before .before .before .before .before .before .before .lent-right .ensures) ∙ not-false _ (c .before .before .before .before .before .before .before .before .before .before .before .before .before .before .before .before .before .before .before .if1 .left)) (sym (c .before .before .before .before .before .before .before .before .before .before .before .before .before .before .before .before .before .before .is-sound .ensures) ∙ not-false _ (c .before .before .before .before .before .before .before .before .before .before .before .before .before .before .before .before .before .if2 .left)) (sym (c .before .before .before .before .before .before .before .before .before .before .before .before .before .before .are-desks-sound .ensures) ∙ not-false _ (c .before .before .before .before .before .before .before .before .before .before .before .before .before .if3 .left)) (c .before .before .before .before .before .before .before .before .before .before .examine .ensures .0) (c .before .before .before .before .before .before .before .examined2 .given .1) (sized i) _ (c .before .before .before .before .before .before .before .before .before .before .examine .ensures .1), desks-on (i .args .s) (i .args .desks .now) (i .args .store .now) (i .args .list .now) (i .args .octets .now) (sym (c .before .before .before .before .before .before .before .before .before .before .before .before .before .before .before .before .before .before .before .before .lent-right .ensures) ∙ not-false _ (c .before .before .before .before .before .before .before .before .before .before .before .before .before .before .before .before .before .before .before .if1 .left)) (sym (c .before .before .before .before .before .before .before .before .before .before .before .before .before .before .before .before .before .before .is-sound .ensures) ∙ not-false _ (c .before .before .before .before .before .before .before .before .before .before .before .before .before .before .before .before .before .if2 .left)) (sym (c .before .before .before .before .before .before .before .before .before .before .before .before .before .before .are-desks-sound .ensures) ∙ not-false _ (c .before .before .before .before .before .before .before .before .before .before .before .before .before .if3 .left)) (c .before .before .before .before .before .before .before .before .before .before .examine .ensures .0) (c .before .before .before .before .before .before .before .examined2 .given .1) (sized i) _ (c .before .before .before .before .before .before .before .before .before .before .examine .ensures .1))
+    let k = c .before .before .before .before .before .before in
+    let d = passed k in
+    let i = begun d in
+    let examined = k .before .before .before .before .examine .ensures in
+    walk-lent (i .args .s) (i .args .desks .now) (i .args .store .now) (i .args .list .now) (i .args .octets .now) (lent (fits (steady d))) (sound (steady d)) (orderly d) (examined .0) (k .before .examined2 .given .1) (sized i) _ (examined .1)
 
 same-length-13 : tie.Need-same-length-13
 same-length-13 c = search needs
@@ -133,7 +172,11 @@ same-length-15 c = search needs
 
 returns-5 : tie.Need-returns-5
 returns-5 c =
-    frame-taken _ _ _ _ _ (sym (c .before .before .before .before .before .before .before .before .before .before .before .before .before .before .before .before .before .before .before .before .before .before .before .before .before .before .before .before .lent-right .ensures) ∙ not-false _ (c .before .before .before .before .before .before .before .before .before .before .before .before .before .before .before .before .before .before .before .before .before .before .before .before .before .before .before .if1 .left)) (sym (c .before .before .before .before .before .before .before .before .before .before .before .before .before .before .before .before .before .before .before .before .before .before .before .before .before .before .is-sound .ensures) ∙ not-false _ (c .before .before .before .before .before .before .before .before .before .before .before .before .before .before .before .before .before .before .before .before .before .before .before .before .before .if2 .left)) (sym (c .before .before .before .before .before .before .before .before .before .before .before .before .before .before .before .before .before .before .before .before .before .before .are-desks-sound .ensures) ∙ not-false _ (c .before .before .before .before .before .before .before .before .before .before .before .before .before .before .before .before .before .before .before .before .before .if3 .left)) (c .before .before .before .before .before .before .before .before .before .before .before .before .before .before .before .before .before .before .examine .ensures .0) (c .before .before .before .before .before .before .before .before .before .before .before .before .before .before .before .examined2 .given .1) (sized (c .before .before .before .before .before .before .before .before .before .before .before .before .before .before .before .before .before .before .before .before .before .before .before .before .before .before .before .before .before .before .before .before .before .before .before .before)) _ (c .before .before .before .before .before .before .before .before .before .before .before .before .before .before .before .before .before .before .examine .ensures .1) (c .before .before .before .before .before .before .before .walk-frame .ensures)
+    let walked = c .before .before .before .before .before .before .before in
+    let k = walked .before .before .before .before .before .before .before in
+    let d = passed k in
+    let examined = k .before .before .before .before .examine .ensures in
+    frame-taken _ _ _ _ _ (lent (fits (steady d))) (sound (steady d)) (orderly d) (examined .0) (k .before .examined2 .given .1) (sized (begun d)) _ (examined .1) (walked .walk-frame .ensures)
 
 pub take-frame-spec : {M : Type 1} → statement M
 take-frame-spec =

@@ -3,7 +3,7 @@ use mathlib.Core.Bool.{true, false}
 use native.Mathlib.Omega.{arith}
 use borrow.Author.Needs.{needs}
 use borrow.Author.Tests.{ne-eqb}
-use Rattle.packet.proofs.Tests.{tests, denied, granted}
+use Rattle.octets.proofs.Tests.{tests, denied, granted}
 use Rattle.transport.specs.Shape.{begunOf}
 use Rattle.transport.proofs.Begins.{Ready, length-wrong, shape-decides}
 use Rattle.transport.proofs.begin.Statement.{statement}

@@ -1,7 +1,7 @@
 -- `transport::first_fits` meets its contract, by its tests. Assumes nothing.
 use borrow.Author.Needs.{needs}
 use borrow.Author.Tests.{eq-eqb}
-use Rattle.packet.proofs.Tests.{tests}
+use Rattle.octets.proofs.Tests.{tests}
 use Rattle.transport.specs.Shape.{firstFits}
 use Rattle.transport.proofs.first_fits.Statement.{statement}
 use Rattle.transport.proofs.first_fits.Tie as tie

@@ -1,6 +1,6 @@
 -- `transport::fits` meets its contract: the flags choose the shape. Assumes nothing.
 use borrow.Author.Needs.{needs}
-use Rattle.packet.proofs.Tests.{tests}
+use Rattle.octets.proofs.Tests.{tests}
 use Rattle.transport.specs.Shape.{fits}
 use Rattle.transport.proofs.fits.Statement.{statement}
 use Rattle.transport.proofs.fits.Tie as tie

@@ -1,5 +1,5 @@
 -- `transport::good_length` meets its contract, by its test. Assumes nothing.
-use Rattle.packet.proofs.Tests.{tests}
+use Rattle.octets.proofs.Tests.{tests}
 use Rattle.transport.specs.Length.{goodLength}
 use Rattle.transport.proofs.good_length.Statement.{statement}
 use Rattle.transport.proofs.good_length.Tie as tie

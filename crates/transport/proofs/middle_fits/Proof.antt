@@ -3,8 +3,8 @@ use mathlib.Core.Path.{_≡_}
 use mathlib.Core.Bool.{true}
 use borrow.Author.Needs.{needs}
 use borrow.Author.Tests.{eq-eqb, ne-eqb}
+use Rattle.octets.proofs.Tests.{denied, granted}
 use Rattle.packet.specs.Kinds.{countFollows}
-use Rattle.packet.proofs.Tests.{denied, granted}
 use Rattle.transport.specs.Shape.{middleFits}
 use Rattle.transport.proofs.middle_fits.Statement.{statement}
 use Rattle.transport.proofs.middle_fits.Tie as tie

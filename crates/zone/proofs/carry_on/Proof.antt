@@ -8,7 +8,7 @@ use Rattle.octets.proofs.Put.{length-put}
 use Rattle.state.specs.Sound.{Sized}
 use Rattle.zone.specs.Walk.{heldAt}
 use Rattle.zone.proofs.Ends.{desk-low, desk-fits}
-use Rattle.zone.proofs.Carry.{lent-told, rest-lent, rest-few, held-few, more-taken, more-fits, copy-fits, written-length, alike, lacks, drops, goes-on, Onward, lacking, size-most, whole-desk, tells-dropped, tells-longer, tells-onward}
+use Rattle.zone.proofs.Carry.{lent-told, held-few, more-fits, more-taken, copy-fits, Joined, written-length, alike, lacks, drops, Onward, goes-on, lacking, size-most, whole-desk, tells-longer, rest-lent, rest-few, tells-onward, tells-dropped}
 use Rattle.zone.proofs.carry_on.Statement.{statement}
 use Rattle.zone.proofs.carry_on.Tie as tie
 
@@ -16,13 +16,20 @@ sized : (c : tie.Start) → Sized (c .args .s)
 sized c =
     record { watched = search (needs, unmap); desks = search (needs, unmap); owner = search needs; slots = search (needs, unmap) }
 
-abbrev start : (k : tie.After-known-told2) → tie.Start
-start k = k .before .before .before .before .before .before .before .before .before .before .before .before .before .before .before .before .before
+-- places of the code that many answers look back to: where it begins, where the zone's octets were copied, and the packet that goes on
+abbrev start : tie.After-copy → tie.Start
+start k = k .before .before .before .before .before .before .before .before .before
 
-goes : (k : tie.After-known-told2) → Onward (heldAt (start k .args .s) (start k .args .desks .now) (start k .args .a .desk)) (start k .args .zone .now) (start k .args .a .pointer) (k .before .fate2 .given .0 .0)
-goes k =
-    let i = start k in
-    goes-on (i .pre .0) (i .pre .1 .0) (i .args .held) (i .pre .1 .1) (k .before .before .before .before .before .before .before .before .before .before .before .least .ensures) (k .before .before .before .before .before .before .before .before .copy .ensures) (k .before .before .before .fate-of .ensures) (k .before .fate2 .given .1)
+abbrev joined : (k : tie.After-copy)
+    → Joined (start k .args .channel) (start k .args .s) (start k .args .a) (start k .args .held) (start k .args .zone .now) (start k .args .desks .now) (start k .args .store .now) (start k .args .list .now)
+joined k = record { carrying = start k .pre; more = _; most = k .before .before .before .least .ensures; written = _; wrote = k .copy .ensures }
+
+abbrev copied : tie.After-known-told2 → tie.After-copy
+copied k = k .before .before .before .before .before .before .before .before
+
+goes : (k : tie.After-known-told2)
+    → Onward (heldAt (start (copied k) .args .s) (start (copied k) .args .desks .now) (start (copied k) .args .a .desk)) (start (copied k) .args .zone .now) (start (copied k) .args .a .pointer) (k .before .fate2 .given .0 .0)
+goes k = goes-on (joined (copied k)) (k .before .before .before .fate-of .ensures) (k .before .fate2 .given .1)
 
 mul-base : tie.Need-mul-base
 mul-base c = search needs
@@ -30,31 +37,27 @@ mul-base c = search needs
 add-behind : tie.Need-add-behind
 add-behind c =
     let i = c .before .before .before .before .before in
-    omega (arith, desk-low (i .pre .0), held-few (i .pre .0) (i .pre .1 .0) (i .args .held) (i .pre .1 .1))
+    omega (arith, desk-low (i .pre .lent), held-few (i .pre))
 
 sub-least : tie.Need-sub-least
-sub-least c =
-    let i = c .before .before .before .before .before in
-    omega (arith, held-few (i .pre .0) (i .pre .1 .0) (i .args .held) (i .pre .1 .1))
+sub-least c = omega (arith, held-few (c .before .before .before .before .before .pre))
 
 least-requires : tie.Need-least-requires
 least-requires c κs = search needs
 
 slice-aggregate-copy : tie.Need-slice-aggregate-copy
-slice-aggregate-copy c =
-    let i = c .before .before .before .before .before .before .before in
-    sym (more-taken (i .pre .0) (i .pre .1 .0) (i .args .held) (i .pre .1 .1) (c .before .least .ensures))
+slice-aggregate-copy c = sym (more-taken (c .before .before .before .before .before .before .before .pre) (c .before .least .ensures))
 
 copy-requires : tie.Need-copy-requires
 copy-requires c κs =
     let i = c .before .before .before .before .before .before .before .before in
     let m = c .before .before .least .ensures in
-    omega (arith, copy-fits (i .pre .0) (i .pre .1 .0) (i .args .held) (i .pre .1 .1) m, more-taken (i .pre .0) (i .pre .1 .0) (i .args .held) (i .pre .1 .1) m)
+    omega (arith, copy-fits (i .pre) m, more-taken (i .pre) m)
 
 add-end : tie.Need-add-end
 add-end c =
-    let i = c .before .before .before .before .before .before .before .before .before .before .before in
-    omega (arith, desk-low (i .pre .0), more-fits (i .pre .0) (i .pre .1 .0) (i .args .held) (i .pre .1 .1) (c .before .before .before .before .before .least .ensures))
+    let k = c .before .before in
+    omega (arith, desk-low (start k .pre .lent), more-fits (start k .pre) (joined k .most))
 
 sub-fate-of : tie.Need-sub-fate-of
 sub-fate-of c = search needs
@@ -64,16 +67,11 @@ part-fate-of-start c = search needs
 
 part-fate-of-end : tie.Need-part-fate-of-end
 part-fate-of-end c =
-    let i = c .before .before .before .before .before .before .before .before .before .before .before .before in
-    let m = c .before .before .before .before .before .before .least .ensures in
-    let fits = copy-fits (i .pre .0) (i .pre .1 .0) (i .args .held) (i .pre .1 .1) m in
-    let same = written-length (i .pre .0) (i .pre .1 .0) (i .args .held) (i .pre .1 .1) m (c .before .before .before .copy .ensures) in
-    omega (arith, fits, same)
+    let k = c .before .before .before in
+    omega (arith, copy-fits (start k .pre) (joined k .most), written-length (joined k))
 
 fate-of-requires : tie.Need-fate-of-requires
-fate-of-requires c κs =
-    let i = c .before .before .before .before .before .before .before .before .before .before .before .before .before in
-    lacks (i .pre .0) (i .pre .1 .0) (i .args .held) (i .pre .1 .1) (c .before .before .before .before .before .before .before .least .ensures) (c .before .before .before .before .copy .ensures)
+fate-of-requires c κs = lacks (joined (c .before .before .before .before))
 
 enum-known-fate : tie.Need-enum-known-fate
 enum-known-fate c = search needs
@@ -86,14 +84,14 @@ start-at-requires c κs = search needs
 
 walk-rest-requires : tie.Need-walk-rest-requires
 walk-rest-requires c κs =
-    let i = c .before .before .before .before .before .before .before .before .before .before .before .before .before .before .before .before .before .before .before .before .before .before .before .before .before in
-    (lent-told (i .pre .0) (written-length (i .pre .0) (i .pre .1 .0) (i .args .held) (i .pre .1 .1) (c .before .before .before .before .before .before .before .before .before .before .before .before .before .before .before .before .before .before .before .least .ensures) (c .before .before .before .before .before .before .before .before .before .before .before .before .before .before .before .before .copy .ensures)) _ _ (c .before .before .before .before .before .before .emit .ensures .1), (c .before .before .before .start-at .ensures .1, omega (arith, c .before .before .before .before .before .before .emit .ensures .0)))
+    let k = c .before .before .before .before .before .before .before .before .before .before .before .before .before .before .before .before in
+    let told = c .before .before .before .before .before .before .emit .ensures in
+    (lent-told (start k .pre .lent) (written-length (joined k)) _ _ (told .1), (c .before .before .before .start-at .ensures .1, omega (arith, told .0)))
 
 same-length : tie.Need-same-length
 same-length c =
-    let i = c .before .before .before .before .before .before .before .before .before .before .before .before .before .before .before .before .before .before .before .before .before .before .before .before .before .before .before .before .before .before .before .before in
     ap length (c .before .before .before .before .before .before .walk-rest .ensures .desked)
-    ∙ simp length-put (written-length (i .pre .0) (i .pre .1 .0) (i .args .held) (i .pre .1 .1) (c .before .before .before .before .before .before .before .before .before .before .before .before .before .before .before .before .before .before .before .before .before .before .before .before .before .before .least .ensures) (c .before .before .before .before .before .before .before .before .before .before .before .before .before .before .before .before .before .before .before .before .before .before .before .copy .ensures))
+    ∙ simp length-put (written-length (joined (c .before .before .before .before .before .before .before .before .before .before .before .before .before .before .before .before .before .before .before .before .before .before .before)))
 
 same-length-2 : tie.Need-same-length-2
 same-length-2 c = search needs
@@ -103,55 +101,41 @@ same-length-3 c = search needs
 
 returns : tie.Need-returns
 returns c =
-    let i = c .before .before .before .before .before .before .before .before .before .before .before .before .before .before .before .before .before .before .before .before .before .before .before .before .before .before .before .before .before .before .before .before in
-    let m = c .before .before .before .before .before .before .before .before .before .before .before .before .before .before .before .before .before .before .before .before .before .before .before .before .before .before .least .ensures in
-    let w = c .before .before .before .before .before .before .before .before .before .before .before .before .before .before .before .before .before .before .before .before .before .before .before .copy .ensures in
-    tells-dropped _ _ _ _ _ _ (alike (i .pre .0) (i .pre .1 .0) (i .args .held) (i .pre .1 .1) m w) _ _ (drops (i .pre .0) (i .pre .1 .0) (i .args .held) (i .pre .1 .1) m w (c .before .before .before .before .before .before .before .before .before .before .before .before .before .before .before .before .before .before .fate-of .ensures) (c .before .before .before .before .before .before .before .before .before .before .before .before .before .before .before .before .fate .given .1)) (i .pre .0 .frame) (c .before .before .before .before .before .before .before .before .before .before .start-at .ensures .0) (c .before .before .before .before .before .before .before .before .before .before .before .before .before .emit .ensures .0) (c .before .before .before .before .before .before .before .before .before .before .before .before .before .emit .ensures .1) (c .before .before .before .before .before .before .walk-rest .ensures)
+    let walked = c .before .before .before .before .before .before in
+    let started = walked .before .before .before .before in
+    let told = started .before .before .before .emit .ensures in
+    let fate = started .before .before .before .before .before .before in
+    let k = fate .before .before .before .before .before .before .before in
+    tells-dropped _ _ _ _ _ _ (alike (joined k)) _ _ (drops (joined k) (fate .before .before .fate-of .ensures) (fate .fate .given .1)) (start k .pre .lent .frame) (started .start-at .ensures .0) (told .0) (told .1) (walked .walk-rest .ensures)
 
 enum-known-fate-2 : tie.Need-enum-known-fate-2
 enum-known-fate-2 c = search needs
 
 sub-lacked : tie.Need-sub-lacked
-sub-lacked c =
-    let k = c in
-    let i = k .before .before .before .before .before .before .before .before .before .before .before .before .before .before .before .before .before in
-    let m = k .before .before .before .before .before .before .before .before .before .before .before .least .ensures in
-    let w = k .before .before .before .before .before .before .before .before .copy .ensures in
-    omega (arith, lacking (i .pre .0) (i .pre .1 .0) (i .args .held) (i .pre .1 .1) m w (goes k))
+sub-lacked c = omega (arith, lacking (joined (copied c)) (goes c))
 
 add-all : tie.Need-add-all
 add-all c = search needs
 
-cast-with-desk : tie.Need-cast-with-desk
-cast-with-desk c =
-    let k = c .before .before in
-    let i = k .before .before .before .before .before .before .before .before .before .before .before .before .before .before .before .before .before in
-    let m = k .before .before .before .before .before .before .before .before .before .before .before .least .ensures in
-    let w = k .before .before .before .before .before .before .before .before .copy .ensures in
-    omega (arith, held-few (i .pre .0) (i .pre .1 .0) (i .args .held) (i .pre .1 .1))
+cast-leave : tie.Need-cast-leave
+cast-leave c = omega (arith, held-few (start (copied (c .before)) .pre))
 
-with-desk-requires : tie.Need-with-desk-requires
-with-desk-requires c κs =
-    desk-low (c .before .before .before .before .before .before .before .before .before .before .before .before .before .before .before .before .before .before .before .pre .0)
+leave-requires : tie.Need-leave-requires
+leave-requires c κs = desk-low (start (copied (c .before)) .pre .lent)
 
 same-length-4 : tie.Need-same-length-4
 same-length-4 c = search needs
 
 returns-2 : tie.Need-returns-2
 returns-2 c =
-    let k = c .before .before .before in
-    let i = k .before .before .before .before .before .before .before .before .before .before .before .before .before .before .before .before .before in
-    let m = k .before .before .before .before .before .before .before .before .before .before .before .least .ensures in
-    let w = k .before .before .before .before .before .before .before .before .copy .ensures in
-    tells-longer (i .pre .0) (i .pre .1 .0) (i .args .held) (i .pre .1 .1) m w (goes k) (c .before .if1 .taken) (c .with-desk .ensures)
+    let k = c .before .before in
+    tells-longer (joined (copied k)) (goes k) (c .before .if1 .taken) (c .leave .ensures)
 
 add-last : tie.Need-add-last
 add-last c =
-    let k = c .before .before in
-    let i = k .before .before .before .before .before .before .before .before .before .before .before .before .before .before .before .before .before in
-    let m = k .before .before .before .before .before .before .before .before .before .before .before .least .ensures in
-    let w = k .before .before .before .before .before .before .before .before .copy .ensures in
-    omega (arith, desk-low (i .pre .0), size-most (i .pre .0) (i .pre .1 .0) (i .args .held) (i .pre .1 .1) m w (goes k))
+    let k = c .before in
+    let i = start (copied k) in
+    omega (arith, desk-low (i .pre .lent), held-few (i .pre), size-most (joined (copied k)) (goes k))
 
 sub-judge : tie.Need-sub-judge
 sub-judge c = search needs
@@ -161,39 +145,27 @@ part-judge-start c = search needs
 
 part-judge-end : tie.Need-part-judge-end
 part-judge-end c =
-    let k = c .before .before .before in
-    let i = k .before .before .before .before .before .before .before .before .before .before .before .before .before .before .before .before .before in
-    let m = k .before .before .before .before .before .before .before .before .before .before .before .least .ensures in
-    let w = k .before .before .before .before .before .before .before .before .copy .ensures in
-    let most = size-most (i .pre .0) (i .pre .1 .0) (i .args .held) (i .pre .1 .1) m w (goes k) in
-    let fits = desk-fits (i .pre .0) in
-    let same = written-length (i .pre .0) (i .pre .1 .0) (i .args .held) (i .pre .1 .1) m w in
-    omega (arith, most, fits, same)
+    let k = c .before .before in
+    let i = start (copied k) in
+    let J = joined (copied k) in
+    omega (arith, held-few (i .pre), size-most J (goes k), desk-fits (i .pre .lent), written-length J)
 
 judge-requires : tie.Need-judge-requires
 judge-requires c κs =
-    let k = c .before .before .before .before .before .before in
-    let i = k .before .before .before .before .before .before .before .before .before .before .before .before .before .before .before .before .before in
-    let m = k .before .before .before .before .before .before .before .before .before .before .before .least .ensures in
-    let w = k .before .before .before .before .before .before .before .before .copy .ensures in
-    (record { sound = i .pre .0 .sound; blocks = i .pre .0 .stored; enough = omega (arith, i .pre .0 .listed) }, (i .pre .0 .watched, whole-desk (i .pre .0) (i .pre .1 .0) (i .args .held) (i .pre .1 .1) m w (goes k) (c .before .before .before .before .if1 .left)))
+    let k = c .before .before .before .before .before in
+    let lent = start (copied k) .pre .lent in
+    (record { sound = lent .sound; blocks = lent .stored; enough = omega (arith, lent .listed) }, (lent .watched, whole-desk (joined (copied k)) (goes k) (c .before .before .before .before .if1 .left)))
 
 walk-rest-requires-2 : tie.Need-walk-rest-requires-2
 walk-rest-requires-2 c κs =
-    let k = c .before .before .before .before .before .before .before .before .before .before .before .before .before .before .before in
-    let i = k .before .before .before .before .before .before .before .before .before .before .before .before .before .before .before .before .before in
-    let m = k .before .before .before .before .before .before .before .before .before .before .before .least .ensures in
-    let w = k .before .before .before .before .before .before .before .before .copy .ensures in
-    let u = c .before .before .before .before .before .before .before .before .judge .ensures in
-    (rest-lent (i .pre .0) (i .pre .1 .0) (i .args .held) (i .pre .1 .1) m w (goes k) u (sized i), (c .before .before .before .before .before .before .before .before .before .before .before .before .before .if1 .left, rest-few (i .pre .0) (i .pre .1 .0) (i .args .held) (i .pre .1 .1) m w (goes k) u))
+    let j = c .before .before .before .before .before .before .before .before in
+    let k = j .before .before .before .before .before .before in
+    (rest-lent (joined (copied k)) (goes k) (j .judge .ensures) (sized (start (copied k))), (j .before .before .before .before .before .if1 .left, rest-few (joined (copied k)) (goes k) (j .judge .ensures)))
 
 same-length-5 : tie.Need-same-length-5
 same-length-5 c =
-    let k = c .before .before .before .before .before .before .before .before .before .before .before .before .before .before .before .before .before .before .before .before .before .before in
-    let i = k .before .before .before .before .before .before .before .before .before .before .before .before .before .before .before .before .before in
-    let m = k .before .before .before .before .before .before .before .before .before .before .before .least .ensures in
-    let w = k .before .before .before .before .before .before .before .before .copy .ensures in
-    ap length (c .before .before .before .before .before .before .walk-rest2 .ensures .desked) ∙ simp length-put (written-length (i .pre .0) (i .pre .1 .0) (i .args .held) (i .pre .1 .1) m w)
+    ap length (c .before .before .before .before .before .before .walk-rest2 .ensures .desked)
+    ∙ simp length-put (written-length (joined (copied (c .before .before .before .before .before .before .before .before .before .before .before .before .before .before .before .before .before .before .before .before .before))))
 
 same-length-6 : tie.Need-same-length-6
 same-length-6 c = search needs
@@ -203,11 +175,10 @@ same-length-7 c = search needs
 
 returns-3 : tie.Need-returns-3
 returns-3 c =
-    let k = c .before .before .before .before .before .before .before .before .before .before .before .before .before .before .before .before .before .before .before .before .before .before in
-    let i = k .before .before .before .before .before .before .before .before .before .before .before .before .before .before .before .before .before in
-    let m = k .before .before .before .before .before .before .before .before .before .before .before .least .ensures in
-    let w = k .before .before .before .before .before .before .before .before .copy .ensures in
-    tells-onward (i .pre .0) (i .pre .1 .0) (i .args .held) (i .pre .1 .1) m w (goes k) (c .before .before .before .before .before .before .before .before .before .before .before .before .before .before .before .before .before .before .before .before .if1 .left) (c .before .before .before .before .before .before .before .before .before .before .before .before .before .before .before .judge .ensures) (c .before .before .before .before .before .before .walk-rest2 .ensures)
+    let walked = c .before .before .before .before .before .before in
+    let j = walked .before .before .before .before .before .before .before .before .before in
+    let k = j .before .before .before .before .before .before in
+    tells-onward (joined (copied k)) (goes k) (j .judge .ensures) (j .before .before .before .before .before .if1 .left) (walked .walk-rest2 .ensures)
 
 pub carry-on-spec : {M : Type 1} → statement M
 carry-on-spec =
@@ -235,8 +206,8 @@ carry-on-spec =
     enum-known-fate-2
     sub-lacked
     add-all
-    cast-with-desk
-    with-desk-requires
+    cast-leave
+    leave-requires
     same-length-4
     returns-2
     add-last

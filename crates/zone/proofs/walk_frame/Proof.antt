@@ -6,6 +6,10 @@ use Rattle.zone.proofs.Carry.{lent-told, tells-gap, tells-seamless, tel
 use Rattle.zone.proofs.walk_frame.Statement.{statement}
 use Rattle.zone.proofs.walk_frame.Tie as tie
 
+-- where the code begins, from where the counter was looked at
+abbrev start : tie.After-is-gap → tie.Start
+start g = g .before .before .before .before .before .before .before
+
 mul-d : tie.Need-mul-d
 mul-d c = search needs
 
@@ -23,8 +27,8 @@ start-at-requires c κs = search needs
 
 walk-rest-requires : tie.Need-walk-rest-requires
 walk-rest-requires c κs =
-    let i = c .before .before .before .before .before .before .before .before .before .before .before .before .before .before .before .before in
-    (lent-told (i .pre .0) refl _ _ (c .before .before .before .before .before .before .emit .ensures .1), (c .before .before .before .start-at .ensures .1, omega (arith, c .before .before .before .before .before .before .emit .ensures .0)))
+    let told = c .before .before .before .before .before .before .emit .ensures in
+    (lent-told (start (c .before .before .before .before .before .before .before .before .before) .pre .0) refl _ _ (told .1), (c .before .before .before .start-at .ensures .1, omega (arith, told .0)))
 
 same-length : tie.Need-same-length
 same-length c = search needs
@@ -37,7 +41,10 @@ same-length-3 c = search needs
 
 returns : tie.Need-returns
 returns c =
-    tells-gap _ _ _ _ _ _ (c .before .before .before .before .before .before .before .before .before .before .before .before .before .before .before .before .is-gap .ensures) (c .before .before .before .before .before .before .before .before .before .before .before .before .before .before .before .if1 .taken) (c .before .before .before .before .before .before .before .before .before .before .before .before .before .before .before .before .before .before .before .before .before .before .before .pre .0 .frame) (c .before .before .before .before .before .before .before .before .before .before .start-at .ensures .0) (c .before .before .before .before .before .before .before .before .before .before .before .before .before .emit .ensures .0) (c .before .before .before .before .before .before .before .before .before .before .before .before .before .emit .ensures .1) (c .before .before .before .before .before .before .walk-rest .ensures)
+    let walked = c .before .before .before .before .before .before in
+    let told = c .before .before .before .before .before .before .before .before .before .before .before .before .before .emit .ensures in
+    let g = c .before .before .before .before .before .before .before .before .before .before .before .before .before .before .before .before in
+    tells-gap _ _ _ _ _ _ (g .is-gap .ensures) (c .before .before .before .before .before .before .before .before .before .before .before .before .before .before .before .if1 .taken) (start g .pre .0 .frame) (walked .before .before .before .before .start-at .ensures .0) (told .0) (told .1) (walked .walk-rest .ensures)
 
 start-at-requires-2 : tie.Need-start-at-requires-2
 start-at-requires-2 c κs = search needs
@@ -56,15 +63,18 @@ same-length-6 c = search needs
 
 returns-2 : tie.Need-returns-2
 returns-2 c =
-    tells-fresh _ _ _ _ _ _ (c .before .before .before .before .before .before .before .before .before .before .before .before .before .before .is-gap .ensures) (c .before .before .before .before .before .before .before .before .before .before .before .before .before .if1 .left) (c .before .before .before .before .before .before .before .before .before .before .before .if2 .taken) (c .before .before .before .before .before .before .before .before .before .before .before .before .before .before .before .before .before .before .before .before .before .pre .0 .frame) (c .before .before .before .before .before .before .before .before .before .before .start-at2 .ensures .0) (c .before .before .before .before .before .before .walk-rest2 .ensures)
+    let walked = c .before .before .before .before .before .before in
+    let none = c .before .before .before .before .before .before .before .before .before .before .before in
+    let g = none .before .before .before in
+    tells-fresh _ _ _ _ _ _ (g .is-gap .ensures) (none .before .before .if1 .left) (none .if2 .taken) (start g .pre .0 .frame) (walked .before .before .before .before .start-at2 .ensures .0) (walked .walk-rest2 .ensures)
 
 cast-carry-on : tie.Need-cast-carry-on
 cast-carry-on c = search needs
 
 carry-on-requires : tie.Need-carry-on-requires
 carry-on-requires c κs =
-    let i = c .before .before .before .before .before .before .before .before .before .before .before .before .before .before in
-    (i .pre .0, (i .pre .1, (refl, omega arith)))
+    let i = start (c .before .before .before .before .before .before .before) in
+    record { lent = i .pre .0; orderly = i .pre .1; here = refl; some = omega arith }
 
 same-length-7 : tie.Need-same-length-7
 same-length-7 c = search needs
@@ -76,7 +86,9 @@ same-length-9 : tie.Need-same-length-9
 same-length-9 c = search needs
 
 returns-3 : tie.Need-returns-3
-returns-3 c = tells-seamless _ _ _ _ _ _ (c .before .before .before .before .before .before .before .before .before .before .before .before .before .before .is-gap .ensures) (c .before .before .before .before .before .before .before .before .before .before .before .before .before .if1 .left) (c .before .before .before .before .before .before .carry-on .ensures)
+returns-3 c =
+    let some = c .before .before .before .before .before .before .before .before .before .before .before in
+    tells-seamless _ _ _ _ _ _ (some .before .before .before .is-gap .ensures) (some .before .before .if1 .left) (c .before .before .before .before .before .before .carry-on .ensures)
 
 pub walk-frame-spec : {M : Type 1} → statement M
 walk-frame-spec =

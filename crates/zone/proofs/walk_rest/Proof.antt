@@ -5,25 +5,27 @@ use Rattle.zone.proofs.Ends.{desk-low, going, room-left, ends-bad, ends
 use Rattle.zone.proofs.walk_rest.Statement.{statement}
 use Rattle.zone.proofs.walk_rest.Tie as tie
 
+-- where the code begins, from where the zone was walked
+abbrev start : tie.After-walk → tie.Start
+start w = w .before .before .before .before .before .before .before .before
+
 mul-base : tie.Need-mul-base
 mul-base c = search needs
 
 walk-requires : tie.Need-walk-requires
-walk-requires c κs =
-    search needs
+walk-requires c κs = search needs
 
 blank-requires : tie.Need-blank-requires
 blank-requires c κs = search needs
 
 emit-requires : tie.Need-emit-requires
 emit-requires c κs =
-    let w = c .before .before .before .before .before .before .before .before .before .before .before .before in
-    let i = c .before .before .before .before .before .before .before .before .before .before .before .before .before .before .before .before .before .before .before .before in
+    let w = c .before .before .before .before .before .before .before .before .before .before .before in
+    let i = start w in
     room-left (w .walk .ensures) (i .args .a) (going (i .pre .0) (i .pre .1 .0) (i .pre .1 .1))
 
-with-desk-requires : tie.Need-with-desk-requires
-with-desk-requires c κs =
-    desk-low (c .before .before .before .before .before .before .before .before .before .before .before .before .before .before .before .before .before .before .before .before .before .before .before .pre .0)
+leave-requires : tie.Need-leave-requires
+leave-requires c κs = desk-low (start (c .before .before .before .before .before .before .before .before .before .before .before .before .before .before) .pre .0)
 
 same-length : tie.Need-same-length
 same-length c = search needs
@@ -36,9 +38,10 @@ same-length-3 c = search needs
 
 returns : tie.Need-returns
 returns c =
-    let w = c .before .before .before .before .before .before .before .before .before .before .before .before .before .before .before .before in
-    let i = c .before .before .before .before .before .before .before .before .before .before .before .before .before .before .before .before .before .before .before .before .before .before .before .before in
-    ends-bad (w .walk .ensures) (i .args .a) (i .args .desks .now) (c .before .before .before .before .before .if1 .taken) (c .with-desk .ensures) (c .before .before .before .before .before .before .before .before .before .before .blank .ensures) (c .before .before .before .emit .ensures .0) (c .before .before .before .emit .ensures .1)
+    let told = c .before .before .before .emit .ensures in
+    let blanked = c .before .before .before .before .before .before .before .before .before in
+    let w = blanked .before .before .before .before .before .before in
+    ends-bad (w .walk .ensures) (start w .args .a) (start w .args .desks .now) (c .before .before .before .before .before .if1 .taken) (c .leave .ensures) (blanked .blank .ensures) (told .0) (told .1)
 
 sub-left : tie.Need-sub-left
 sub-left c = search needs
@@ -55,13 +58,11 @@ part-copy-end c = search needs
 copy-requires : tie.Need-copy-requires
 copy-requires c κs = search needs
 
-cast-with-desk : tie.Need-cast-with-desk
-cast-with-desk c =
-    omega (arith, c .before .before .before .before .before .before .before .before .before .before .before .before .before .before .before .before .before .before .before .before .before .before .before .before .pre .0 .frame)
+cast-leave : tie.Need-cast-leave
+cast-leave c = omega (arith, start (c .before .before .before .before .before .before .before .before .before .before .before .before .before .before .before) .pre .0 .frame)
 
-with-desk-requires-2 : tie.Need-with-desk-requires-2
-with-desk-requires-2 c κs =
-    desk-low (c .before .before .before .before .before .before .before .before .before .before .before .before .before .before .before .before .before .before .before .before .before .before .before .before .pre .0)
+leave-requires-2 : tie.Need-leave-requires-2
+leave-requires-2 c κs = desk-low (start (c .before .before .before .before .before .before .before .before .before .before .before .before .before .before .before) .pre .0)
 
 same-length-4 : tie.Need-same-length-4
 same-length-4 c = search needs
@@ -74,9 +75,9 @@ same-length-6 c = search needs
 
 returns-2 : tie.Need-returns-2
 returns-2 c =
-    let w = c .before .before .before .before .before .before .before .before .before .before .before .before .before .before .before .before .before in
-    let i = c .before .before .before .before .before .before .before .before .before .before .before .before .before .before .before .before .before .before .before .before .before .before .before .before .before in
-    ends-left (w .walk .ensures) (i .args .a) (i .args .desks .now) (c .before .before .before .before .before .before .if1 .left) (i .pre .0 .frame) (c .with-desk2 .ensures) (c .before .before .before .before .before .before .before .before .before .before .before .blank .ensures) (c .before .before .before .copy .ensures)
+    let blanked = c .before .before .before .before .before .before .before .before .before .before in
+    let w = blanked .before .before .before .before .before .before in
+    ends-left (w .walk .ensures) (start w .args .a) (start w .args .desks .now) (c .before .before .before .before .before .before .if1 .left) (start w .pre .0 .frame) (c .leave2 .ensures) (blanked .blank .ensures) (c .before .before .before .copy .ensures)
 
 pub walk-rest-spec : {M : Type 1} → statement M
 walk-rest-spec =
@@ -86,7 +87,7 @@ walk-rest-spec =
     walk-requires
     blank-requires
     emit-requires
-    with-desk-requires
+    leave-requires
     same-length
     same-length-2
     same-length-3
@@ -96,8 +97,8 @@ walk-rest-spec =
     part-copy-start
     part-copy-end
     copy-requires
-    cast-with-desk
-    with-desk-requires-2
+    cast-leave
+    leave-requires-2
     same-length-4
     same-length-5
     same-length-6

@@ -1,5 +1,5 @@
 -- `packet::Application::checked` meets its contract, by its test. Assumes nothing.
-use Rattle.packet.proofs.Tests.{tests}
+use Rattle.octets.proofs.Tests.{tests}
 use Rattle.packet.proofs.Application.checked.Statement.{statement}
 use Rattle.packet.proofs.Application.checked.Tie as tie
 

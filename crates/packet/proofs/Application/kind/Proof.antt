@@ -1,5 +1,5 @@
 -- `packet::Application::kind` meets its contract, by its tests. Assumes nothing.
-use Rattle.packet.proofs.Tests.{tests}
+use Rattle.octets.proofs.Tests.{tests}
 use Rattle.packet.proofs.Application.kind.Statement.{statement}
 use Rattle.packet.proofs.Application.kind.Tie as tie
 

@@ -1,5 +1,5 @@
 -- `packet::Count::checked` meets its contract, by its test. Assumes nothing.
-use Rattle.packet.proofs.Tests.{tests}
+use Rattle.octets.proofs.Tests.{tests}
 use Rattle.packet.proofs.Count.checked.Statement.{statement}
 use Rattle.packet.proofs.Count.checked.Tie as tie
 

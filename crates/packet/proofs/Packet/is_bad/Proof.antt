@@ -1,6 +1,6 @@
 -- `packet::Packet::is_bad` meets its contract, by its tests. Assumes nothing.
+use Rattle.octets.proofs.Tests.{tests}
 use Rattle.packet.specs.Header.{bad}
-use Rattle.packet.proofs.Tests.{tests}
 use Rattle.packet.proofs.Packet.is_bad.Statement.{statement}
 use Rattle.packet.proofs.Packet.is_bad.Tie as tie
 

@@ -6,7 +6,7 @@ use native.Mathlib.Omega.{arith}
 use borrow.Author.Needs.{needs}
 use borrow.Author.Tests.{le-leb, lt-ltb, eq-eqb, ne-eqb}
 use lib.Dec.{eqb}
-use Rattle.packet.proofs.Tests.{tests}
+use Rattle.octets.proofs.Tests.{tests}
 use Rattle.state.specs.declared.Desk.{Desk}
 use Rattle.state.specs.Decision.{deskHolds}
 use Rattle.state.proofs.Desk.holds.Statement.{statement}

@@ -1,7 +1,7 @@
 -- `Slot::is_complete` meets its contract, by its test and the contract of `need`. Assumes nothing.
 use borrow.Author.Needs.{needs}
 use borrow.Author.Tests.{ne-eqb}
-use Rattle.packet.proofs.Tests.{tests}
+use Rattle.octets.proofs.Tests.{tests}
 use Rattle.state.specs.Slots.{held, complete}
 use Rattle.state.proofs.Slot.is_complete.Statement.{statement}
 use Rattle.state.proofs.Slot.is_complete.Tie as tie

@@ -1,7 +1,7 @@
 -- `Slot::is_incomplete` meets its contract, by its test and the contract of `need`. Assumes nothing.
 use borrow.Author.Needs.{needs}
 use borrow.Author.Tests.{ne-eqb}
-use Rattle.packet.proofs.Tests.{tests}
+use Rattle.octets.proofs.Tests.{tests}
 use Rattle.state.specs.Slots.{held, incomplete}
 use Rattle.state.proofs.Slot.is_incomplete.Statement.{statement}
 use Rattle.state.proofs.Slot.is_incomplete.Tie as tie

@@ -1,5 +1,5 @@
 -- `Slot::is_of` meets its contract, by its tests. Assumes nothing.
-use Rattle.packet.proofs.Tests.{tests}
+use Rattle.octets.proofs.Tests.{tests}
 use Rattle.state.specs.Slots.{ofPair}
 use Rattle.state.proofs.Slot.is_of.Statement.{statement}
 use Rattle.state.proofs.Slot.is_of.Tie as tie

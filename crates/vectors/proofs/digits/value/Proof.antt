@@ -1,6 +1,6 @@
 -- `vectors::digits::value` meets its contract, by its tests. Assumes nothing.
 use borrow.Author.Needs.{needs}
-use Rattle.packet.proofs.Tests.{tests}
+use Rattle.octets.proofs.Tests.{tests}
 use Rattle.vectors.specs.Digits.{valueOf}
 use Rattle.vectors.proofs.digits.value.Statement.{statement}
 use Rattle.vectors.proofs.digits.value.Tie as tie

@@ -1,0 +1,288 @@
+-- The runs of specs/Guards.antt give what is said there. Assumes nothing.
+use mathlib.Core.Path.{_≡_, refl, sym, ap, ap₂, subst, _∙_}
+use mathlib.Core.Bool.{true}
+use mathlib.Core.Logic.{inl, inr}
+use mathlib.Core.List.{List, [], _∷_, _++_, append-nil, append-assoc}
+use Prim.Native.Nat.{ℕ, zero, _+_, _/_, _%_, _≤_, _<_}
+use native.Mathlib.Omega.{arith}
+use borrow.Author.Tests.{eq-eqb, le-leb}
+use lib.ListN.{length, getD, set, replicate, length-append, length-replicate}
+use Rattle.frame.specs.Header.{pointerMeaning}
+use Rattle.transport.specs.declared.Transport.{Transport}
+use Rattle.transport.specs.Length.{goodLength, octetsOfBits, transportSize, need, rest}
+use Rattle.state.specs.declared.Slot.{Slot}
+use Rattle.state.specs.declared.Station.{Station}
+use Rattle.state.specs.Slots.{noFile, deskAt, slotAt, held, complete, incomplete, ofPair}
+use Rattle.state.specs.Blocks.{needs}
+use Rattle.state.specs.Decision.{among, distinctChannels, goodChannels}
+use Rattle.octets.proofs.Tests.{and-both}
+use Rattle.room.specs.Find.{freeFrom, fileFrom}
+use Rattle.room.specs.Move.{letGo}
+use Rattle.judge.specs.Event.{Event, of, at}
+use Rattle.judge.specs.Packets.{Starts}
+use Rattle.zone.specs.Zone.{split, fromPointer}
+use Rattle.zone.specs.Walk.{deskAfter, gap, heldAt}
+use Rattle.zone.proofs.Readings.{reading-none}
+use Rattle.station.specs.SetUp.{SetUpOutcome, channelOf, freshStation, setUp}
+use Rattle.station.specs.Files.{answered, released}
+use Rattle.station.proofs.Calls.{setUp-outcome, setUp-zero, release-outcome, release-zero}
+use Rattle.history.specs.Run.{World, Call, answer, after, run, Start, fresh}
+use Rattle.history.specs.Run.Call.{frame, release}
+use Rattle.history.specs.Things.{said}
+use Rattle.history.specs.Things.Thing.{packet, left}
+use Rattle.history.specs.Store.{Moment}
+use Rattle.history.specs.Sent.{Program, sent, tenFrames, allSaid, checked, long}
+use Rattle.history.specs.Guards.{twoBlocks, threeBlocks, fiveBlocks, sevenBlocks, first, middle, last, fill, whole, published, twoPackets, oneLost, heldFile, needsTwo, needsThree, needsSeven, Runs, Guards}
+use Rattle.history.proofs.Sound.{fresh-sound, world-sound, after-sound}
+use Rattle.history.proofs.Sending.{accepts, cut, Listens, Makes, makes-none, step, brings-packets, Brings}
+use Rattle.history.proofs.Making.{MakesOne, makes-then}
+use Rattle.history.proofs.Packets.{sixOf, headOf, header-look, fileAt, ten, bits, long-size, carries, first-opens, first-refused, middle-adds, last-adds, last-ends, fill-makes, fill-size, fill-cuts, last-cuts, whole-cuts, whole-head, whole-intact, whole-right, whole-opens}
+
+-- calls before calls
+run-then : (w : World) (cs ds : List Call) → run w (cs ++ ds) ≡ run (run w cs) ds
+unfolding run
+run-then w [] ds = refl
+run-then w (c ∷ cs) ds = run-then (after w c) cs ds
+
+said-then : (w : World) (cs ds : List Call) → allSaid w (cs ++ ds) ≡ allSaid w cs ++ allSaid (run w cs) ds
+unfolding run allSaid
+said-then w [] ds = refl
+said-then w (c ∷ cs) ds =
+    ap (λ (es : List Event). said w c ++ es) (said-then (after w c) cs ds)
+    ∙ sym (append-assoc (said w c) (allSaid (after w c) cs) (allSaid (run (after w c) cs) ds))
+
+brings-then : {w : World} {cs ds : List Call} {n m : ℕ} {ys zs : List Slot} {es fs : List Event} → Brings w cs n ys es
+    → ((v : World) → Listens v n [] ys → Brings v ds m zs fs) → Brings w (cs ++ ds) m zs (es ++ fs)
+brings-then {w} {cs} {ds} b f =
+    let c = f (run w cs) (b .listens) in
+    record {
+      listens = rw (run-then w cs ds) (c .listens);
+      tells = said-then w cs ds ∙ ap₂ _++_ (b .tells) (c .tells);
+    }
+
+-- the file in slot 0, which is complete, is released
+release-brings : (n : ℕ) (x : Slot) (zs : List Slot) → complete x ≡ true → (w : World) → Listens w n [] (x ∷ zs)
+    → Brings w (release 0 ∷ []) n (noFile ∷ zs) []
+unfolding run allSaid after said letGo
+release-brings n x zs done w L =
+    let s = w .station in
+    let all : complete (slotAt s 0) ≡ true = rw (L .slots) done in
+    let zero : released s 0 .answer ≡ 0 = release-zero s 0 .1 (world-sound (L .sound), omega arith, all) in
+    let is : released s 0 ≡ answered 0 (letGo s 0) = release-outcome s 0 .done zero in
+    let listens : Listens (after w (release 0)) n [] (noFile ∷ zs) =
+    rw is
+    (record {
+      sound = rw is at (after-sound (L .sound) (release 0));
+      craft = L .craft;
+      channels = L .channels;
+      watched = L .watched;
+      blocks = L .blocks;
+      slots = ap (λ (xs : List Slot). set xs 0 noFile) (L .slots);
+      seamless = L .seamless;
+      holds = L .holds;
+    }) in
+    record { listens = listens; tells = refl }
+
+-- the fresh station of the program
+module _ (x : Start) (p : Program x) where
+  fresh-is : fresh x .station ≡ freshStation 1 (0 ∷ 1 ∷ 2 ∷ 3 ∷ []) 7
+  fresh-is =
+      let k : length (x .store) / 8190 ≡ 7 = omega (arith, p .store) in
+      ap (λ (o : SetUpOutcome). o .station) (setUp-outcome (x .spacecraft) (x .channels) (x .desks) (x .store) .done (x .good))
+      ∙ rw (p .spacecraft, p .channels, k) refl
+
+  pub fresh-listens : Listens (fresh x) 0 [] (replicate 32 noFile)
+  unfolding freshStation gap
+  fresh-listens =
+      record {
+        sound = fresh-sound x;
+        craft = ap (λ (s : Station). s .spacecraft) fresh-is;
+        channels = ap (λ (s : Station). s .channels) fresh-is;
+        watched = ap (λ (s : Station). s .watched) fresh-is;
+        blocks = ap (λ (s : Station). s .blocks) fresh-is;
+        slots = ap (λ (s : Station). s .slots) fresh-is;
+        seamless = ap (λ (s : Station). gap (deskAt s 2) (record { 0 = 0 })) fresh-is;
+        holds = ap (λ (s : Station). heldAt s (fresh x .desks) 2) fresh-is;
+      }
+
+abbrev none : List Slot
+none = replicate 32 noFile
+
+abbrev others : List Slot
+others = replicate 31 noFile
+
+module _ (list : List ℕ) (listed : 900 ≤ length list) where
+  -- ten frames with a long packet: application a, flags f, count c
+  long-brings : (a f c : ℕ) → a < 256 → f < 4 → c < 256 → (seed : List ℕ) → length seed ≤ 8188 → (n : ℕ) → n + 10 ≤ 256
+      → (tail : List ℕ) → length tail ≡ 642 → (qs : List (List ℕ)) → split tail ≡ cut qs []
+      → {xs ys : List Slot} {es : List Event} → Makes xs (checked (sixOf 0 a f c 8191) (long seed) ∷ qs) ys es
+      → (w : World) → Listens w n [] xs → Brings w (tenFrames n (checked (sixOf 0 a f c 8191) (long seed) ++ tail) list) (n + 10) ys es
+  long-brings a f c low fs cs seed few n room tail size qs cuts does =
+      carries (sixOf 0 a f c 8191) (long seed) refl (long-size seed few) (headOf a f c 8191)
+      (header-look 0 a a f c 8191 (omega arith) low (omega arith) fs cs (omega arith) (omega arith) [])
+      n room tail list size listed refl qs cuts does
+
+  -- a first packet with nothing but fill behind it
+  alone : (a L n : ℕ) → a < 256 → n + 10 ≤ 256 → {xs ys : List Slot} {es : List Event} → MakesOne xs (first a L) ys es
+      → (w : World) → Listens w n [] xs → Brings w (tenFrames n (first a L ++ fill 642) list) (n + 10) ys es
+  alone a L n low room {xs} {ys} {es} does =
+      long-brings a 1 0 low (omega arith) (omega arith) (ten L) (omega arith) n room (fill 642) (fill-size 642 (omega arith) (omega arith))
+      (fill 642 ∷ []) (fill-cuts 642 (omega arith) (omega arith))
+      (subst (Makes xs (first a L ∷ fill 642 ∷ []) ys) (append-nil es)
+      (makes-then does (makes-then (fill-makes 642 (omega arith) (omega arith) ys) (makes-none ys))))
+
+  opens-five : MakesOne none (first 5 fiveBlocks) (fileAt 5 fiveBlocks 0 ∷ others) (at 10 5 0 ∷ [])
+  unfolding goodLength need transportSize octetsOfBits fileFrom freeFrom ofPair incomplete held needs
+  opens-five = first-opens 5 fiveBlocks (omega arith) (omega arith) refl (omega arith) none refl refl (omega arith)
+
+  -- a middle packet with nothing but fill behind it, of the file of 5
+  goes-on : (c n : ℕ) → c + 2 < 5 → n + 10 ≤ 256 → (w : World) → Listens w n [] (fileAt 5 fiveBlocks c ∷ others)
+      → Brings w (tenFrames n (middle 5 (c + 1) ++ fill 642) list) (n + 10) (fileAt 5 fiveBlocks (c + 1) ∷ others) (at 11 5 0 ∷ [])
+  unfolding need transportSize octetsOfBits
+  goes-on c n more room =
+      let ys = fileAt 5 fiveBlocks (c + 1) ∷ others in
+      long-brings 5 0 (c + 1) (omega arith) (omega arith) (omega arith) [] (omega arith) n room (fill 642)
+      (fill-size 642 (omega arith) (omega arith)) (fill 642 ∷ []) (fill-cuts 642 (omega arith) (omega arith))
+      (makes-then (middle-adds 5 fiveBlocks c (omega arith) (omega arith) (omega arith) others (omega arith))
+      (makes-then (fill-makes 642 (omega arith) (omega arith) ys) (makes-none ys)))
+
+  -- and its last two
+  comes-to-end : (w : World) → Listens w 30 [] (fileAt 5 fiveBlocks 2 ∷ others)
+      → Brings w (tenFrames 30 (middle 5 3 ++ (last 5 4 ++ fill 633)) list) 40 (fileAt 5 fiveBlocks 4 ∷ others) (at 11 5 0 ∷ at 12 5 0 ∷ [])
+  unfolding need transportSize octetsOfBits rest
+  comes-to-end =
+      let ys = fileAt 5 fiveBlocks 4 ∷ others in
+      long-brings 5 0 3 (omega arith) (omega arith) (omega arith) [] (omega arith) 30 (omega arith) (last 5 4 ++ fill 633)
+      (omega (arith, length-append (last 5 4) (fill 633), fill-size 633 (omega arith) (omega arith)))
+      (last 5 4 ∷ fill 633 ∷ []) (last-cuts 633 (omega arith) (omega arith) 5 4 (omega arith) (omega arith))
+      (makes-then (middle-adds 5 fiveBlocks 2 (omega arith) (omega arith) (omega arith) others (omega arith))
+      (makes-then (last-adds 5 fiveBlocks 3 (omega arith) (omega arith) (omega arith) others 4 (omega arith) refl (omega arith) (omega arith))
+      (makes-then (fill-makes 633 (omega arith) (omega arith) ys) (makes-none ys))))
+
+  -- the file of 2 and its last packet, with count c
+  two-packets : (c : ℕ) → c < 256 → {ys : List Slot} {es : List Event} → MakesOne (fileAt 5 twoBlocks 0 ∷ others) (last 5 c) ys es
+      → (w : World) → Listens w 0 [] none → Brings w (tenFrames 0 (first 5 twoBlocks ++ (last 5 c ++ fill 633)) list) 10 ys (at 10 5 0 ∷ es)
+  unfolding goodLength need transportSize octetsOfBits fileFrom freeFrom ofPair incomplete held needs
+  two-packets c cs {ys} {es} does =
+      long-brings 5 1 0 (omega arith) (omega arith) (omega arith) (ten twoBlocks) (omega arith) 0 (omega arith) (last 5 c ++ fill 633)
+      (omega (arith, length-append (last 5 c) (fill 633), fill-size 633 (omega arith) (omega arith)))
+      (last 5 c ∷ fill 633 ∷ []) (last-cuts 633 (omega arith) (omega arith) 5 c (omega arith) cs)
+      (makes-then (first-opens 5 twoBlocks (omega arith) (omega arith) refl (omega arith) none refl refl (omega arith))
+      (subst (Makes (fileAt 5 twoBlocks 0 ∷ others) (last 5 c ∷ fill 633 ∷ []) ys) (append-nil es)
+      (makes-then does (makes-then (fill-makes 633 (omega arith) (omega arith) ys) (makes-none ys)))))
+
+  module _ (x : Start) (p : Program x) where
+    five : Brings (fresh x) (heldFile list) 10 (fileAt 5 fiveBlocks 0 ∷ others) (at 10 5 0 ∷ [])
+    five = alone 5 fiveBlocks 0 (omega arith) (omega arith) opens-five (fresh x) (fresh-listens x p)
+
+    completes : Brings (fresh x) (twoPackets list) 10 (fileAt 5 twoBlocks 1 ∷ others) (at 10 5 0 ∷ at 12 5 0 ∷ [])
+    unfolding need transportSize octetsOfBits rest
+    completes =
+        two-packets 1 (omega arith)
+        (last-adds 5 twoBlocks 0 (omega arith) (omega arith) (omega arith) others 1 (omega arith) refl (omega arith) (omega arith)) (fresh x)
+        (fresh-listens x p)
+
+    abandons : Brings (fresh x) (oneLost list) 10 none (at 10 5 0 ∷ at 6 5 0 ∷ [])
+    unfolding need transportSize octetsOfBits
+    abandons =
+        two-packets 2 (omega arith)
+        (last-ends 5 twoBlocks 0 (omega arith) (omega arith) (omega arith) others 2 (omega arith) (λ e. omega arith)) (fresh x)
+        (fresh-listens x p)
+
+    two-opens : Brings (fresh x) (needsTwo list) 20 (set (fileAt 5 fiveBlocks 0 ∷ others) 1 (fileAt 6 twoBlocks 0)) (at 10 5 0 ∷ at 10 6 1 ∷ [])
+    unfolding goodLength need transportSize octetsOfBits fileFrom freeFrom ofPair incomplete held needs
+    two-opens =
+        brings-then five
+        (alone 6 twoBlocks 10 (omega arith) (omega arith)
+        (first-opens 6 twoBlocks (omega arith) (omega arith) refl (omega arith) (fileAt 5 fiveBlocks 0 ∷ others) refl refl (omega arith)))
+
+    three-gives-9 : Brings (fresh x) (needsThree list) 20 (fileAt 5 fiveBlocks 0 ∷ others) (at 10 5 0 ∷ of 9 6 ∷ [])
+    unfolding goodLength need transportSize octetsOfBits fileFrom freeFrom ofPair incomplete held needs
+    three-gives-9 =
+        brings-then five
+        (alone 6 threeBlocks 10 (omega arith) (omega arith)
+        (first-refused 6 threeBlocks (omega arith) (omega arith) refl (omega arith) (fileAt 5 fiveBlocks 0 ∷ others) refl {k = 1} refl (omega arith)))
+
+    seven-opens : Brings (fresh x) (needsSeven list) 50 (fileAt 6 sevenBlocks 0 ∷ others)
+        (at 10 5 0 ∷ at 11 5 0 ∷ at 11 5 0 ∷ at 11 5 0 ∷ at 12 5 0 ∷ at 10 6 0 ∷ [])
+    unfolding complete goodLength need transportSize octetsOfBits fileFrom freeFrom ofPair incomplete held needs
+    seven-opens =
+        brings-then
+        (brings-then
+        (brings-then
+        (brings-then (brings-then five (goes-on 0 10 (omega arith) (omega arith))) (goes-on 1 20 (omega arith) (omega arith))) comes-to-end)
+        (release-brings 40 (fileAt 5 fiveBlocks 4) others refl))
+        (alone 6 sevenBlocks 40 (omega arith) (omega arith)
+        (first-opens 6 sevenBlocks (omega arith) (omega arith) refl (omega arith) none refl refl (omega arith)))
+
+    -- "F 0 0 2", "E 10 5 0", "E 12 5 0"
+    as-published : allSaid (fresh x) (published list) ≡ at 10 5 0 ∷ at 12 5 0 ∷ []
+    unfolding allSaid fromPointer pointerMeaning
+    as-published =
+        let zone = whole ++ fill 865 in
+        let ys = fileAt 5 8 0 ∷ others in
+        append-nil (said (fresh x) (frame (sent 0 0 zone) list))
+        ∙ step (fresh-listens x p) (omega arith) 0 (inl (omega arith)) zone list
+        (omega (arith, length-append whole (fill 865), fill-size 865 (omega arith) (omega arith))) listed
+        zone (reading-none zone 0) (whole ∷ fill 865 ∷ []) [] (whole-cuts 865 (omega arith) (omega arith)) 1 (omega arith)
+        (makes-then whole-opens (makes-then (fill-makes 865 (omega arith) (omega arith) ys) (makes-none ys))) .1
+
+    runs : Runs x list
+    unfolding complete held need transportSize octetsOfBits
+    runs =
+        record {
+          is-published = as-published;
+          completed = completes .tells;
+          complete-then = ap (λ (ys : List Slot). complete (getD ys 0 noFile)) (completes .listens .slots);
+          abandoned = abandons .tells;
+          two-open = two-opens .tells;
+          three-refused = three-gives-9 .tells;
+          seven-open = seven-opens .tells;
+        }
+
+-- a set-up of the program: desks and store of zeros
+program : (x : Start) × Program x
+unfolding goodChannels distinctChannels among
+program =
+    let desks = replicate {A = ℕ} 32792 0 in
+    let store = replicate {A = ℕ} 57330 0 in
+    let long : length store ≡ 57330 = length-replicate {A = ℕ} 57330 0 in
+    let good : setUp 1 (0 ∷ 1 ∷ 2 ∷ 3 ∷ []) desks store .answer ≡ 0 =
+    setUp-zero 1 (0 ∷ 1 ∷ 2 ∷ 3 ∷ []) desks store .1 (
+      refl,
+      eq-eqb (length desks) 32792 (length-replicate {A = ℕ} 32792 0),
+      and-both (and-both (eq-eqb (length store % 8190) 0 (omega arith)) (le-leb 1 (length store / 8190) (omega arith)))
+          (le-leb (length store / 8190) 4096 (omega arith)),
+    ) in (
+      record { spacecraft = 1; channels = 0 ∷ 1 ∷ 2 ∷ 3 ∷ []; desks = desks; store = store; good = good },
+      record { spacecraft = refl; channels = refl; store = long },
+    )
+
+-- the whole packet of the published frame
+moment : (m : Moment) × (t : Transport) × Starts (m .p) t
+unfolding run fromPointer pointerMeaning
+moment =
+    let (x, q) = program in
+    let list = replicate {A = ℕ} 900 0 in
+    let listed : 900 ≤ length list = omega (arith, length-replicate {A = ℕ} 900 0) in
+    let zone = whole ++ fill 865 in (
+      record {
+        start = x;
+        calls = [];
+        sent = sent 0 0 zone;
+        list = list;
+        before = [];
+        channel = channelOf 2;
+        p = whole;
+        later = packet (channelOf 2) (fill 865) ∷ left 2 (deskAfter (accepts 0 0) 0) ∷ [];
+        brought =
+            brings-packets (fresh-listens x q) (omega arith) 0 (inl (omega arith)) zone list
+            (omega (arith, length-append whole (fill 865), fill-size 865 (omega arith) (omega arith))) listed
+            zone (reading-none zone 0) (whole ∷ fill 865 ∷ []) [] (whole-cuts 865 (omega arith) (omega arith));
+      },
+      bits 8,
+      record { undamaged = whole-intact; starting = rw (← whole-head) (inr refl); right = rw (← whole-head) whole-right },
+    )
+
+pub guards : Guards
+guards = record { set-up = program; moment = moment; runs = λ x p list listed. runs list listed x p }

@@ -1,0 +1,78 @@
+-- Demand 1: what each call answers, of any octets and any state, reached or not; and that a refused call changes nothing. Assumes nothing.
+use mathlib.Core.Path.{_≡_}
+use mathlib.Core.Bool.{true}
+use mathlib.Core.List.{List, [], _∷_}
+use Prim.Native.Nat.{ℕ, _≤_}
+use lib.ListN.{length}
+use Rattle.octets.specs.Buffer.{put}
+use Rattle.state.specs.Slots.{allZeroState}
+use Rattle.state.specs.Decision.{among}
+use Rattle.judge.specs.Event.{flat}
+use Rattle.station.specs.SetUp.{setUpGives, setUp}
+use Rattle.station.specs.Files.{readOut}
+use Rattle.octets.specs.Reasons.{Reason, numbers, applies}
+use Rattle.station.specs.Answers.{setUpSays, frameSays, readSays, releaseSays, dropSays}
+use Rattle.history.specs.Run.{World, Call, frameIn, answer, after}
+use Rattle.history.specs.Run.Call.{frame, read, release, drop}
+use Rattle.history.specs.Things.{said}
+
+-- the numbers of a call in the order in which they are tried, each with its test: the tables of "What the station says"
+abbrev pub says : World → Call → List Reason
+says w (frame f list) = frameSays (w .station) (w .desks) (w .store) list f
+says w (read k offset buffer) = readSays (w .station) (w .store) k offset (length buffer)
+says w (release k) = releaseSays (w .station) k
+says w (drop k) = dropSays (w .station) k
+
+-- n is 0 where no number of a table applies, and else one that does
+pub record ByNumber (rs : List Reason) (n : ℕ) : Type 0 where
+  pub one-of : among n (0 ∷ numbers rs) ≡ true
+  pub given : (n ≡ 0 → ⊥) → applies rs n ≡ true
+  pub zero : ((m : ℕ) → applies rs m ≡ true → ⊥) → n ≡ 0
+
+-- what a call is lent to write its result into: a frame's event list, a read's buffer
+abbrev pub lentFor : Call → List ℕ
+lentFor (frame f list) = list
+lentFor (read k offset buffer) = buffer
+lentFor (release k) = []
+lentFor (drop k) = []
+
+-- and what stands in it afterwards
+unfoldable pub resultOf : World → Call → List ℕ
+resultOf w (frame f list) = frameIn w f list .list
+resultOf w (read k offset buffer) = readOut (w .station) (w .store) k offset buffer .buffer
+resultOf w (release k) = []
+resultOf w (drop k) = []
+
+-- how many events a call says that it gave
+unfoldable pub eventCount : World → Call → ℕ
+eventCount w (frame f list) = frameIn w f list .events
+eventCount w (read k offset buffer) = 0
+eventCount w (release k) = 0
+eventCount w (drop k) = 0
+
+-- "changes no octet of desks or store, no slot and no event"
+pub record NothingChanged (w : World) (c : Call) : Type 0 where
+  pub world : after w c ≡ w
+  pub lent : resultOf w c ≡ lentFor c
+  pub events : eventCount w c ≡ 0
+
+pub record Answers (w : World) (c : Call) : Type 0 where
+  -- "answers by the rules paper's numbers"
+  pub number : ByNumber (says w c) (answer w c)
+  -- "The lowest number that applies is given"
+  pub lowest : (n : ℕ) → applies (says w c) n ≡ true → (1 ≤ answer w c) × (answer w c ≤ n)
+  -- "A refused call changes .."
+  pub refused : (answer w c ≡ 0 → ⊥) → NothingChanged w c
+
+-- set-up, in whose table "10 comes before 1"; "a refused set-up's state is all zero", and its desks stay
+pub record SetsUp (craft : ℕ) (channels desks store : List ℕ) : Type 0 where
+  pub number : ByNumber (setUpSays channels desks store) (setUp craft channels desks store .answer)
+  pub ten : applies (setUpSays channels desks store) 10 ≡ true → setUp craft channels desks store .answer ≡ 10
+  pub refused :
+      (setUp craft channels desks store .answer ≡ 0 → ⊥)
+      → setUp craft channels desks store ≡ setUpGives (setUp craft channels desks store .answer) allZeroState desks
+
+-- "0: done; for a frame, with the number of events"; "After 0 the events fill the list from its start and the rest of it stays."
+pub record Told (w : World) (f list : List ℕ) : Type 0 where
+  pub count : frameIn w f list .events ≡ length (said w (frame f list))
+  pub listed : frameIn w f list .list ≡ put list 0 (flat (said w (frame f list)))

@@ -1,0 +1,140 @@
+-- Demand 2: when a file is complete, and that its octets are those its packets carried. Assumes nothing.
+use mathlib.Core.Path.{_≡_}
+use mathlib.Core.Bool.{true}
+use mathlib.Core.Logic.{_↔_}
+use mathlib.Core.List.{List, [], _∷_, _++_, map, flatten}
+use Prim.Native.Nat.{ℕ, _+_, _/_, _%_, _≤_, _<_}
+use lib.Dec.{eqb}
+use lib.ListN.{length, getD, take, drop}
+use Rattle.octets.specs.Choice.{if_then_else_}
+use Rattle.octets.specs.Number.{part}
+use Rattle.frame.specs.declared.Channel.{Channel}
+use Rattle.packet.specs.Header.{packetOf}
+use Rattle.transport.specs.declared.Transport.{Transport}
+use Rattle.transport.specs.Length.{transportOf, octetsOfBits, rest}
+use Rattle.state.specs.declared.Slot.{Slot}
+use Rattle.state.specs.declared.Station.{Station}
+use Rattle.state.specs.Slots.{slotAt, held, complete, needOf}
+use Rattle.state.specs.Blocks.{blocksOf}
+use Rattle.room.specs.File.{blockOctets, fileOctets}
+use Rattle.judge.specs.Event.{at, Among}
+use Rattle.judge.specs.Judge.{dataOf, firstSlot, nextSlot, judged}
+use Rattle.judge.specs.Packets.{Undamaged, Starting, Starts, Following}
+use Rattle.history.specs.Run.{World, Call, answer, run, Start, fresh}
+use Rattle.history.specs.Run.Call.{read}
+use Rattle.history.specs.Calls.{resultOf}
+use Rattle.history.specs.Things.{Thing, didAll, allThings}
+use Rattle.history.specs.Things.Thing.{packet}
+use Rattle.history.specs.Follow.{follow, added}
+use Rattle.history.specs.Follow.Fate.{Still}
+use Rattle.history.specs.Ledger.{Page, ledgerRun, noPages}
+
+-- the file x of slot k came about by these things, one after the other
+pub record Came (s : Station) (store : List ℕ) (ts : List Thing) (k : ℕ) (x : Slot) : Type 0 where
+  pub before : List Thing
+  pub channel : Channel
+  pub first : List ℕ
+  pub later : List Thing
+  pub file : Transport
+  pub split : ts ≡ before ++ (packet channel first ∷ later)
+  -- "it was opened": one of the things is its first packet, and that gave event 10 for slot k
+  pub starts : Starts first file
+  pub opened :
+      Among (at 10 (packetOf first .application .0) k)
+      (judged channel (didAll s store before .station) (didAll s store before .store) first .events)
+  -- "with nothing ending it by the paper's rules": what came after that, looked at from its slot alone, leaves the file as x
+  pub followed : follow k (firstSlot channel (packetOf first) file) later ≡ Still x
+
+abbrev pub CameInRun : Start → List Call → ℕ → Slot → Type 0
+CameInRun x cs = Came (fresh x .station) (fresh x .store) (allThings (fresh x) cs)
+
+-- the packets of a file that came about: the first, and those that went on with it
+abbrev pub packetsOf : {s : Station} {store : List ℕ} {ts : List Thing} {k : ℕ} {x : Slot} → Came s store ts k x → List (List ℕ)
+packetsOf {k = k} m = m .first ∷ added k (firstSlot (m .channel) (packetOf (m .first)) (m .file)) (m .later)
+
+-- a slot holds exactly what came about
+abbrev pub HeldExactly : Start → List Call → Type 0
+HeldExactly x cs =
+    (k : ℕ) → k < 32 → (y : Slot) → held y ≡ true → (slotAt (run (fresh x) cs .station) k ≡ y) ↔ CameInRun x cs k y
+
+-- "A file is complete exactly when it was opened and all its packets then came": they are N
+abbrev pub CompleteExactly : Start → List Call → Type 0
+CompleteExactly x cs =
+    (k : ℕ) → k < 32
+    → (complete (slotAt (run (fresh x) cs .station) k) ≡ true)
+    ↔ ((y : Slot) × (m : CameInRun x cs k y) × (length (packetsOf m) ≡ needOf y))
+
+-- a packet that goes on with the file in slot x
+pub record GoesOnWith (x : Slot) (p : List ℕ) : Type 0 where
+  pub application : packetOf p .application .0 ≡ x .application .0
+  pub intact : Undamaged p
+  pub later : Starting (packetOf p) → ⊥
+  pub following : Following x (packetOf p) (dataOf p)
+
+-- ".. intact, in order": each packet goes on with the file as those before it leave it, up to y
+abbrev pub InOrder : Slot → List (List ℕ) → Slot → Type 0
+InOrder x [] y = x ≡ y
+InOrder x (p ∷ ps) y = GoesOnWith x p × InOrder (nextSlot x (packetOf p)) ps y
+
+pub record PacketsRight {s : Station} {store : List ℕ} {ts : List Thing} {k : ℕ} {x : Slot} (m : Came s store ts k x) : Type 0 where
+  pub in-order :
+      InOrder (firstSlot (m .channel) (packetOf (m .first)) (m .file)) (added k (firstSlot (m .channel) (packetOf (m .first)) (m .file)) (m .later)) x
+  -- the slot counts them
+  pub count : length (packetsOf m) ≡ x .accepted
+
+-- what the i-th packet of a file carries: "8,190 octets", and the Nth "exactly the rest"; of a file of one packet the rest is all of it
+abbrev pub entrySize : Slot → ℕ → ℕ
+entrySize x i = if eqb (i + 1) (needOf x) then rest (x .bits) else 8190
+
+-- the page of a held slot x with the blocks bs, in order of place: "its first blocks hold the data of its accepted packets in order"
+pub record PageRight (x : Slot) (bs store : List ℕ) (page : Page) : Type 0 where
+  -- an entry for each packet accepted, each of the paper's size
+  pub count : length page ≡ x .accepted
+  pub sizes : (i : ℕ) → i < x .accepted → length (getD page i []) ≡ entrySize x i
+  -- the first begins with the ten transport octets, which give the file's length
+  pub header : (10 ≤ length (getD page 0 [])) × (transportOf (getD page 0 []) .bits ≡ x .bits)
+  -- the block at place i begins with the i-th entry
+  pub blocks : (i : ℕ) → i < x .accepted → take (length (getD page i [])) (blockOctets store (getD bs i 0)) ≡ getD page i []
+
+-- of every held file of a run
+abbrev pub BlocksHold : Start → List Call → Type 0
+BlocksHold x cs =
+    (k : ℕ) → k < 32 → held (slotAt (run (fresh x) cs .station) k) ≡ true
+    → PageRight (slotAt (run (fresh x) cs .station) k) (blocksOf (run (fresh x) cs .station) k) (run (fresh x) cs .store)
+    (ledgerRun (fresh x) cs noPages k)
+
+-- a page joined, "the ten transport octets don't count"
+abbrev pub carried : Page → List ℕ
+carried page = drop 10 (flatten page)
+
+-- "Its octets are those its packets carried": a complete file is its page joined, less the ten transport octets
+pub record FileRight (w : World) (k : ℕ) (page : Page) : Type 0 where
+  pub octets : fileOctets (w .station) (w .store) k ≡ carried page
+  pub size : length (carried page) ≡ octetsOfBits (slotAt (w .station) k .bits)
+  -- "A read copies file octets from a given offset .. to fill a lent buffer"
+  pub read-part :
+      (offset : ℕ) (buffer : List ℕ) → offset + length buffer ≤ octetsOfBits (slotAt (w .station) k .bits)
+      → (answer w (read k offset buffer) ≡ 0) × (resultOf w (read k offset buffer) ≡ part offset (length buffer) (carried page))
+  -- no strip of another picture: octet n of the file was carried by the packet of its own page that has that place
+  pub octet :
+      (n : ℕ) → n < octetsOfBits (slotAt (w .station) k .bits)
+      → getD (fileOctets (w .station) (w .store) k) n 0 ≡ getD (getD page ((10 + n) / 8190) []) ((10 + n) % 8190) 0
+
+-- of every complete file of a run, with its page of the run's ledger
+abbrev pub FilesCarried : Start → List Call → Type 0
+FilesCarried x cs =
+    (k : ℕ) → k < 32 → complete (slotAt (run (fresh x) cs .station) k) ≡ true → FileRight (run (fresh x) cs) k (ledgerRun (fresh x) cs noPages k)
+
+-- the page of a file that came about is the data of its packets, in order
+abbrev pub PagesCame : Start → List Call → Type 0
+PagesCame x cs =
+    (k : ℕ) → k < 32 → (y : Slot) (m : CameInRun x cs k y) → ledgerRun (fresh x) cs noPages k ≡ map dataOf (packetsOf m)
+
+-- octet i of what a read of a complete file gives was carried by a packet that was accepted for this file, at that place of its data
+abbrev pub NoStrip : Start → List Call → Type 0
+NoStrip x cs =
+    (k : ℕ) → k < 32 → (y : Slot) (m : CameInRun x cs k y) → complete y ≡ true
+    → (offset : ℕ) (buffer : List ℕ) → offset + length buffer ≤ octetsOfBits (y .bits)
+    → (i : ℕ) → i < length buffer
+    → getD (resultOf (run (fresh x) cs) (read k offset buffer)) i 0
+    ≡ getD (dataOf (getD (packetsOf m) ((10 + (offset + i)) / 8190) [])) ((10 + (offset + i)) % 8190) 0

@@ -1,0 +1,31 @@
+-- How the outcome of a test in the code meets the same test in a definition, and tests put together by "and". Assumes nothing.
+use mathlib.Core.Path.{_≡_, refl, sym, _∙_}
+use mathlib.Core.Bool.{Bool, true, false, not, _&&_, false≢true}
+use borrow.Author.Needs.{needs}
+use borrow.Author.Tests.{lt-ltb, le-ltb, le-leb, lt-leb, eq-eqb, ne-eqb, not-true, not-false}
+
+-- what `search` is handed for tests of numbers
+pub ruleset tests = (needs, lt-ltb, le-ltb, le-leb, lt-leb, eq-eqb, ne-eqb)
+
+-- a test by a call, with the call's promise: `if !f(..) { .. }`, taken and left
+pub denied : {r t : Bool} → r ≡ t → not r ≡ true → t ≡ false
+denied {r} e h = sym e ∙ not-true r h
+
+pub granted : {r t : Bool} → r ≡ t → not r ≡ false → t ≡ true
+granted {r} e h = sym e ∙ not-false r h
+
+-- "and"
+pub and-left : (a b : Bool) → (a && b) ≡ true → a ≡ true
+and-left true b e = refl
+and-left false b e = e
+
+pub and-right : (a b : Bool) → (a && b) ≡ true → b ≡ true
+and-right true b e = e
+and-right false b e = absurd (false≢true e)
+
+pub and-both : {a b : Bool} → a ≡ true → b ≡ true → (a && b) ≡ true
+and-both p q = rw (p, q)
+
+pub true-unless : (b : Bool) → (b ≡ false → ⊥) → b ≡ true
+true-unless true f = refl
+true-unless false f = absurd (f refl)
