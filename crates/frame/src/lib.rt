@@ -7,7 +7,7 @@ ghost use mathlib.Core.Path.{_≡_};
 ghost use Prim.Native.Nat.{_+_, _≤_, _<_};
 ghost use lib.ListN.{length, take};
 ghost use Rattle.frame.specs.Kinds.{checkedChannel, checkedCounter, nextCounter, counterFollows, deskOf};
-ghost use Rattle.frame.specs.Header.{marker, startsWith, derandomised, frameOf, pointerMeaning};
+ghost use Rattle.frame.specs.Header.{marker, startsWith, frameOf, pointerMeaning};
 ghost use Rattle.frame.specs.Refusals.{examinedHeader, examined, plainAfter};
 
 // A channel number. It cannot stand for an application number, nor the other way round.

@@ -1,7 +1,6 @@
 -- What the program prints. Assumes nothing.
 use mathlib.Core.List.{List, [], _∷_, _++_}
 use Prim.Native.Nat.{ℕ}
-use Rattle.text.specs.Pieces.{spaced}
 use Rattle.text.specs.Lines.{spacedThree, newline, eventLines}
 use Rattle.station.specs.Frame.{FrameOutcome}
 
@@ -12,7 +11,3 @@ frameText index answer events list = 0x46 ∷ [] ++ spacedThree index answer eve
 -- what is printed of a frame, from what comes of it
 abbrev pub outcomeText : ℕ → FrameOutcome → List ℕ
 outcomeText index o = frameText index (o .answer) (o .events) (o .list)
-
--- "at the end END, frames, octets left over"
-abbrev pub endText : ℕ → ℕ → List ℕ
-endText frames left = 0x45 ∷ 0x4E ∷ 0x44 ∷ [] ++ spaced frames ++ spaced left ++ newline

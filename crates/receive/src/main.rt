@@ -12,8 +12,9 @@ ghost use mathlib.Core.Path.{_≡_};
 ghost use lib.ListN.{length};
 ghost use Rattle.station.specs.Frame.{framed};
 ghost use Rattle.octets.specs.Buffer.{put};
+ghost use Rattle.text.specs.Lines.{endLine};
 ghost use Rattle.receive.specs.Step.{WentOn};
-ghost use Rattle.receive.specs.Told.{frameText, outcomeText, endText};
+ghost use Rattle.receive.specs.Told.{frameText, outcomeText};
 
 const SPACECRAFT: u8 = 1;
 
@@ -64,13 +65,10 @@ fn receive(
 // The end of the input: how many frames there were, and how many octets were left over.
 fn end(frames: u64, left: u64, out: &mut [u8])
     requires { ⌜ length (now out) ≡ 19565 ⌝ }
-    ensures { λ _. ⌜ now (out .exit) ≡ put (now (out .entry)) 0 (endText frames left) ⌝ }
+    ensures { λ _. ⌜ now (out .exit) ≡ put (now (out .entry)) 0 (endLine frames left) ⌝ }
 {
-    let word = text::word(b"END", out, 0);
-    let second = text::number(frames, out, word);
-    let last = text::number(left, out, second);
-    let end = text::line_end(out, last);
-    io::write_all(STDOUT_FILENO, &out[0..end]);
+    let last = text::end_line(frames, left, out, 0);
+    io::write_all(STDOUT_FILENO, &out[0..last]);
 }
 
 // Nothing says that an input ends, and a proved loop has to: it stops at a number of frames that no run comes to.

@@ -13,7 +13,7 @@ ghost use mathlib.Core.List.{map};
 ghost use Prim.Native.Nat.{_+_, _*_, _≤_, _<_};
 ghost use lib.ListN.{length, take, drop};
 ghost use Rattle.octets.specs.Each.{each};
-ghost use Rattle.state.specs.Slots.{noFile, held, needOf, complete, incomplete, ofPair, number, named, allZeroState};
+ghost use Rattle.state.specs.Slots.{noFile, held, needOf, complete, incomplete, ofPair, number, allZeroState};
 ghost use Rattle.state.specs.Decision.{among as amongOf, goodChannels, setUpSound, isOwner, slotSound, blockCounts, slotsSound, twinIn, noTwins, deskHolds, isSound, octetsHeld, desksHeld};
 
 // A file slot. It is held exactly if a packet was accepted for it; the need follows from the length, and it is complete exactly if as many

@@ -18,6 +18,10 @@ pub behind : {before middle after p q : List ℕ} {at between end : ℕ} → Wri
 behind {before = before} {p = p} {q = q} {at = at} u w =
     record { holds = w .holds ∙ rw (u .holds, u .ends) (put-put p before at q); ends = w .ends ∙ rw (u .ends, length-append) (add-assoc _ _ _) }
 
+-- nothing put anywhere
+pub nothing : (before : List ℕ) (at : ℕ) → Written before at [] before at
+nothing before at = record { holds = sym (put-nil before at); ends = sym (add-zero at) }
+
 pub same-room : {before after p : List ℕ} {at end : ℕ} → Written before at p after end → length after ≡ length before
 same-room {before = before} {p = p} {at = at} w = rw (w .holds) (length-put before at p)
 

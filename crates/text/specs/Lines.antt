@@ -16,6 +16,10 @@ newline = 0x0A ∷ []
 abbrev pub eventLine : ℕ → ℕ → ℕ → List ℕ
 eventLine kind application slot = 0x45 ∷ [] ++ spacedThree kind application slot ++ newline
 
+-- "END" and two numbers: the last line of a program that takes its input piece by piece
+abbrev pub endLine : ℕ → ℕ → List ℕ
+endLine pieces left = 0x45 ∷ 0x4E ∷ 0x44 ∷ [] ++ spaced pieces ++ spaced left ++ newline
+
 -- the lines of the first n events of a list that has three numbers for each
 unfoldable pub eventLines : ℕ → List ℕ → List ℕ
 eventLines zero list = []

@@ -5,6 +5,7 @@
 // one piece (proofs/Following.antt). The callers of this crate show that there is room.
 mod lines;
 
+pub use lines::end_line;
 pub use lines::events;
 ghost use Prim.Native.Nat.{_+_, _*_, _^_, _≤_, _<_};
 ghost use mathlib.Core.Path.{_≡_};

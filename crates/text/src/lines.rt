@@ -1,9 +1,9 @@
-// The lines of events, of which a list has three numbers each.
+// Whole lines: those of events, of which a list has three numbers each, and the last one.
 ghost use Prim.Native.Nat.{_+_, _*_, _≤_};
 ghost use mathlib.Core.Path.{_≡_};
 ghost use lib.ListN.{length, getD};
 ghost use Rattle.text.specs.Pieces.{Written};
-ghost use Rattle.text.specs.Lines.{eventLine, eventLines};
+ghost use Rattle.text.specs.Lines.{endLine, eventLine, eventLines};
 
 fn wide(x: u16) -> u64
     ensures { λ r. ⌜ r ≡ x ⌝ }
@@ -23,6 +23,17 @@ fn event(list: &[u16], i: usize, out: &mut [u8], at: usize) -> usize
     let letter = crate::word(b"E", out, at);
     let end = crate::numbers(kind, application, slot, out, letter);
     crate::line_end(out, end)
+}
+
+// The last line: how many pieces of the input were taken, and how many octets were left over.
+pub fn end_line(pieces: u64, left: u64, out: &mut [u8], at: usize) -> usize
+    requires { ⌜ at + 46 ≤ length (now out) ⌝ }
+    ensures { λ r. ⌜ (r ≤ at + 46) × Written (now (out .entry)) at (endLine pieces left) (now (out .exit)) r ⌝ }
+{
+    let word = crate::word(b"END", out, at);
+    let second = crate::number(pieces, out, word);
+    let last = crate::number(left, out, second);
+    crate::line_end(out, last)
 }
 
 // The lines of the n events at the start of a list.

@@ -3,7 +3,8 @@ use mathlib.Core.Path.{_∙_}
 use borrow.Author.Needs.{needs}
 use Rattle.octets.proofs.Lists.{unmap}
 use Rattle.state.specs.Sound.{Sized}
-use Rattle.receive.proofs.Steps.{few-told, went-on, told}
+use Rattle.station.proofs.Frames.{few-told}
+use Rattle.receive.proofs.Steps.{went-on, told}
 use Rattle.receive.proofs.receive.Statement.{statement}
 use Rattle.receive.proofs.receive.Tie as tie
 

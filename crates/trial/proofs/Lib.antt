@@ -1,0 +1,6 @@
+-- Laws of the commands: fields poked, what comes of a call, how many events a frame has, what a letter says, blocks shown.
+pub mod Poking
+pub mod Outcomes
+pub mod Steps
+pub mod Letters
+pub mod Showing

@@ -1,0 +1,25 @@
+-- `trial::calls::drop_file` meets its contract. Assumes nothing.
+use native.Mathlib.Omega.{arith}
+use borrow.Author.Needs.{needs}
+use Rattle.trial.specs.World.{wasDropped}
+use Rattle.trial.proofs.calls.drop_file.Statement.{statement}
+use Rattle.trial.proofs.calls.drop_file.Tie as tie
+
+drop-file-requires : tie.Need-drop-file-requires
+drop-file-requires c κs = search needs
+
+answer-line-requires : tie.Need-answer-line-requires
+answer-line-requires c κs = search needs
+
+same-length : tie.Need-same-length
+same-length c = search needs
+
+returns : tie.Need-returns
+unfolding wasDropped
+returns c =
+    let a = c .before .before .before .before .before .drop-file .ensures in
+    let line = c .before .before .before .answer-line .ensures in
+    ((λ desks store. rw a), (omega (arith, line .0), rw a at (line .1)))
+
+pub drop-file-spec : {M : Type 1} → statement M
+drop-file-spec = tie.close (tie.spec drop-file-requires answer-line-requires same-length returns)

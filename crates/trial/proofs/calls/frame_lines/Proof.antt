@@ -1,0 +1,44 @@
+-- `trial::calls::frame_lines` meets its contract. Assumes nothing.
+use borrow.Author.Needs.{needs}
+use Rattle.text.proofs.Following.{behind}
+use Rattle.trial.proofs.calls.frame_lines.Statement.{statement}
+use Rattle.trial.proofs.calls.frame_lines.Tie as tie
+
+slice-aggregate-word : tie.Need-slice-aggregate-word
+slice-aggregate-word c = search needs
+
+word-requires : tie.Need-word-requires
+word-requires c κs = search needs
+
+number-requires : tie.Need-number-requires
+number-requires c κs = search needs
+
+number-requires-2 : tie.Need-number-requires-2
+number-requires-2 c κs = search needs
+
+line-end-requires : tie.Need-line-end-requires
+line-end-requires c κs = search needs
+
+events-requires : tie.Need-events-requires
+events-requires c κs = search needs
+
+same-length : tie.Need-same-length
+same-length c = search needs
+
+returns : tie.Need-returns
+returns c =
+    let count = behind (behind (c .before .before .before .before .before .before .before .before .before .before .before .before .before .before .before .before .before .before .word .ensures) (c .before .before .before .before .before .before .before .before .before .before .before .before .before .before .number .ensures .1)) (c .before .before .before .before .before .before .before .before .before .before .number2 .ensures .1) in
+    (search needs, behind (behind count (c .before .before .before .before .before .before .line-end .ensures .1)) (c .before .before .events .ensures .1))
+
+pub frame-lines-spec : {M : Type 1} → statement M
+frame-lines-spec =
+    tie.close
+    (tie.spec
+    slice-aggregate-word
+    word-requires
+    number-requires
+    number-requires-2
+    line-end-requires
+    events-requires
+    same-length
+    returns)

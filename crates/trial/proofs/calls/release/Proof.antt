@@ -1,0 +1,25 @@
+-- `trial::calls::release` meets its contract. Assumes nothing.
+use native.Mathlib.Omega.{arith}
+use borrow.Author.Needs.{needs}
+use Rattle.trial.specs.World.{wasReleased}
+use Rattle.trial.proofs.calls.release.Statement.{statement}
+use Rattle.trial.proofs.calls.release.Tie as tie
+
+release-requires : tie.Need-release-requires
+release-requires c κs = search needs
+
+answer-line-requires : tie.Need-answer-line-requires
+answer-line-requires c κs = search needs
+
+same-length : tie.Need-same-length
+same-length c = search needs
+
+returns : tie.Need-returns
+unfolding wasReleased
+returns c =
+    let a = c .before .before .before .before .before .release .ensures in
+    let line = c .before .before .before .answer-line .ensures in
+    ((λ desks store. rw a), (omega (arith, line .0), rw a at (line .1)))
+
+pub release-spec : {M : Type 1} → statement M
+release-spec = tie.close (tie.spec release-requires answer-line-requires same-length returns)

@@ -1,0 +1,205 @@
+// A script of commands from standard input, each carried out on a station, and what happened, line by line; docs/TRIAL.md says how.
+//
+// Owns the memory: a desk buffer, a store buffer and a state, of which any octet and any field can be set. Promises: the program is safe and
+// ends; each command changes state, desks and store as specs/World.antt has it, by the station's own definitions, and what it prints is the
+// text of what came of it (specs/Told.antt, specs/Shown.antt).
+mod calls;
+mod command;
+mod pokes;
+mod show;
+
+use command::Command;
+use command::Payload;
+use libc::STDIN_FILENO;
+use libc::STDOUT_FILENO;
+use state::Station;
+ghost use mathlib.Core.Path.{_≡_};
+ghost use Prim.Native.Nat.{_+_, _≤_};
+ghost use lib.ListN.{length, take};
+ghost use Rattle.octets.specs.Buffer.{put};
+ghost use Rattle.text.specs.Pieces.{Written};
+ghost use Rattle.text.specs.Lines.{endLine};
+ghost use Rattle.trial.specs.Script.{payloadOf, Fetches};
+ghost use Rattle.trial.specs.World.{world, carriedOut};
+ghost use Rattle.trial.specs.Told.{told};
+
+// The octets of nine desks, and of sixty-five blocks and one more.
+const DESKS: usize = 73782;
+
+const STORE: usize = 532351;
+
+// The most octets that follow a command, and the room for the longest text of one: a letter, a number, a space, the digits of 16,384 octets
+// and the line's end.
+const PAYLOAD: usize = 2048;
+
+const TEXT: usize = 32800;
+
+// Octets of an input that no run comes to.
+const NEVER: u64 = 0x4000000000000000;
+
+// What the program holds beside its buffers: the state, and how many octets of the desks and of the store are lent to a call.
+pub struct Run {
+    pub station: Station,
+    pub desks: usize,
+    pub store: usize,
+}
+
+// What comes of a command: what the program holds then, and where the text ends that is to be printed.
+pub struct Done {
+    pub run: Run,
+    pub end: usize,
+}
+
+fn finish(run: Run, end: usize) -> Done
+    ensures { λ r. ⌜ r ≡ record { run = run; end = end } ⌝ }
+{
+    Done { run: run, end: end }
+}
+
+// One command. Its text stands at the start of out, but for H, which prints line by line.
+fn carry_out(
+    w: Run,
+    x: Command,
+    payload: &[u8],
+    desks: &mut [u8],
+    store: &mut [u8],
+    out: &mut [u8],
+) -> Done
+    requires { ⌜ (w .desks ≤ length (now desks)) × (w .store ≤ length (now store)) × (length (now out) ≡ 32800) ⌝ }
+    requires { ⌜ payloadOf x ≡ Payload.Octets (length (now payload)) ⌝ }
+    ensures { λ r. ⌜ world (r .run) (now (desks .exit)) (now (store .exit)) ≡ carriedOut x (now (payload .entry)) (world w (now (desks .entry)) (now (store .entry))) ⌝ }
+    ensures { λ r. ⌜ (r .end ≤ 32800) × Written (now (out .entry)) 0 (told x (now (payload .entry)) (world w (now (desks .entry)) (now (store .entry)))) (now (out .exit)) (r .end) ⌝ }
+{
+    let letter = x.letter;
+    if letter == b'S' {
+        return calls::set_up(w, x, payload, desks, store, out);
+    }
+    if letter == b'F' {
+        return calls::take_frame(w, x, payload, desks, store, out);
+    }
+    if letter == b'R' {
+        let end = calls::read_file(w, x, store, out);
+        return finish(w, end);
+    }
+    if letter == b'L' {
+        return calls::release(w, x, out);
+    }
+    if letter == b'D' {
+        return calls::drop_file(w, x, out);
+    }
+    if letter == b'H' {
+        show::show(w, desks, store);
+        return finish(w, 0);
+    }
+    let run = pokes::poke(w, x, desks, store);
+    finish(run, 0)
+}
+
+// How many octets the rest of the input has: it is read to its end.
+fn rest() -> u64
+    ensures { λ r. ⌜ r ≤ 0x4000000000010000 ⌝ }
+{
+    let mut came = io::large_buffer();
+    let mut n: u64 = 0;
+    while n < NEVER {
+        let got = libc::read(STDIN_FILENO, &mut came);
+        let k = io::count(got, &came);
+        if k == 0 {
+            return n;
+        }
+        n += k as u64;
+    }
+    n
+}
+
+// The payload of a command: so many octets, at the start of a buffer; or how many octets of the script are not used, with the command's own,
+// for the run ends with it.
+pub enum Fetched {
+    Octets(usize),
+    Unused(u64),
+}
+
+fn fetch(x: Command, payload: &mut [u8]) -> Fetched
+    requires { ⌜ length (now payload) ≡ 2048 ⌝ }
+    ensures { λ r. ⌜ Fetches x r ⌝ }
+{
+    let p = x.payload();
+    match p {
+        Payload::Refused => {
+            return Fetched::Unused(16 + rest());
+        }
+        Payload::Octets(k) => {
+            let came = io::read_full(STDIN_FILENO, &mut payload[0..k]);
+            if came < k {
+                return Fetched::Unused(16 + came as u64);
+            }
+            return Fetched::Octets(k);
+        }
+    }
+}
+
+// One command carried out, whose payload is the first k octets of a buffer, and its text printed.
+fn obey(
+    w: Run,
+    x: Command,
+    payload: &[u8],
+    k: usize,
+    desks: &mut [u8],
+    store: &mut [u8],
+    out: &mut [u8],
+) -> Run
+    requires { ⌜ (w .desks ≤ length (now desks)) × (w .store ≤ length (now store)) × (length (now out) ≡ 32800) ⌝ }
+    requires { ⌜ (payloadOf x ≡ Payload.Octets k) × (k ≤ length (now payload)) ⌝ }
+    ensures { λ r. ⌜ world r (now (desks .exit)) (now (store .exit)) ≡ carriedOut x (take k (now (payload .entry))) (world w (now (desks .entry)) (now (store .entry))) ⌝ }
+    ensures { λ r. ⌜ (r .desks ≤ length (now (desks .entry))) × (r .store ≤ length (now (store .entry))) ⌝ }
+{
+    let d = carry_out(w, x, &payload[0..k], desks, store, out);
+    let last = d.end;
+    io::write_all(STDOUT_FILENO, &out[0..last]);
+    let run = d.run;
+    run
+}
+
+// The last line: how many commands were carried out, and how many octets of the script were not used.
+fn end(n: u64, unused: u64, out: &mut [u8])
+    requires { ⌜ length (now out) ≡ 32800 ⌝ }
+    ensures { λ _. ⌜ now (out .exit) ≡ put (now (out .entry)) 0 (endLine n unused) ⌝ }
+{
+    let last = text::end_line(n, unused, out, 0);
+    io::write_all(STDOUT_FILENO, &out[0..last]);
+}
+
+// Nothing says that an input ends, and a proved loop has to: it stops at a number of commands that no run comes to.
+fn main() {
+    let mut desks = [0u8; DESKS];
+    let mut store = [0u8; STORE];
+    let mut head = [0u8; Command::SIZE];
+    let mut payload = [0u8; PAYLOAD];
+    let mut out = [0u8; TEXT];
+    let zero = Station::zero();
+    let mut w = Run {
+        station: zero,
+        desks: 0,
+        store: 0,
+    };
+    let mut n: u64 = 0;
+    while n < u64::MAX {
+        let got = io::read_full(STDIN_FILENO, &mut head);
+        if got < Command::SIZE {
+            end(n, got as u64, &mut out);
+            return;
+        }
+        let x = Command::read(&head);
+        let f = fetch(x, &mut payload);
+        match f {
+            Fetched::Unused(m) => {
+                end(n, m, &mut out);
+                return;
+            }
+            Fetched::Octets(k) => {
+                w = obey(w, x, &payload, k, &mut desks, &mut store, &mut out);
+            }
+        }
+        n += 1;
+    }
+}
