@@ -1,16 +1,17 @@
 #!/usr/bin/env bash
 # Holds the proved programs to the second program: on every stored case and the demo, and on random scripts and streams.
 #
-#   tests/random.sh [SEEDS [SIZE]]
+#   tests/random.sh [SEEDS [COMMANDS [FRAMES]]]
 #
-# For each of SEEDS seeds (24) one script of SIZE commands (800) for trial and one stream of half as many frames for receive.
+# For each of SEEDS seeds (24) one script of COMMANDS commands (800) for trial and one stream of FRAMES frames (400) for receive.
 # In the environment: SECOND, the second program (second/target/release/second), and FIRST, the first seed (1). The last line is
 # 'N passed, M failed'.
 set -euo pipefail
 shopt -s nullglob
 cd "$(dirname "$0")/.."
 seeds=${1:-24}
-size=${2:-800}
+commands=${2:-800}
+frames=${3:-400}
 first=${FIRST:-1}
 second=${SECOND:-second/target/release/second}
 for program in target/bin/trial target/bin/receive "$second"; do
@@ -50,10 +51,10 @@ if [ -f demo/frames ]; then
     hold demo receive demo/frames demo/expected
 fi
 for ((seed = first; seed < first + seeds; seed++)); do
-    "$second" random "$seed" "$size" >"$room/script"
+    "$second" random "$seed" "$commands" >"$room/script"
     "$second" trial <"$room/script" >"$room/expected"
     hold "random seed $seed" trial "$room/script" "$room/expected"
-    "$second" stream "$seed" "$((size / 2))" >"$room/frames"
+    "$second" stream "$seed" "$frames" >"$room/frames"
     "$second" receive <"$room/frames" >"$room/expected"
     hold "stream seed $seed" receive "$room/frames" "$room/expected"
 done

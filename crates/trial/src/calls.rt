@@ -75,9 +75,9 @@ pub fn drop_file(w: Run, x: Command, out: &mut [u8]) -> Done
     let s = w.station;
     let a = station::drop_file(s, x.b);
     let end = answer_line(b'D', a.answer, out);
-    let after = a.station;
+    let left = a.station;
     let run = Run {
-        station: after,
+        station: left,
         desks: w.desks,
         store: w.store,
     };

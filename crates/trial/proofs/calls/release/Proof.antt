@@ -1,7 +1,9 @@
 -- `trial::calls::release` meets its contract. Assumes nothing.
+use mathlib.Core.Path.{ap}
 use native.Mathlib.Omega.{arith}
 use borrow.Author.Needs.{needs}
-use Rattle.trial.specs.World.{wasReleased}
+use Rattle.station.specs.declared.Answered.{Answered}
+use Rattle.trial.specs.World.{world, withState, wasReleased}
 use Rattle.trial.proofs.calls.release.Statement.{statement}
 use Rattle.trial.proofs.calls.release.Tie as tie
 
@@ -18,8 +20,10 @@ returns : tie.Need-returns
 unfolding wasReleased
 returns c =
     let a = c .before .before .before .before .before .release .ensures in
-    let line = c .before .before .before .answer-line .ensures in
-    ((λ desks store. rw a), (omega (arith, line .0), rw a at (line .1)))
+    let line = c .before .before .before .answer-line .ensures in (
+      (λ desks store. ap (λ (o : Answered). withState (world (c .before .before .before .before .before .before .before .before .args .w) desks store) (o .station)) a),
+      (omega (arith, line .0), rw a at (line .1)),
+    )
 
 pub release-spec : {M : Type 1} → statement M
 release-spec = tie.close (tie.spec release-requires answer-line-requires same-length returns)

@@ -11,7 +11,7 @@ cast-t5 c = search needs
 
 returns : tie.Need-returns
 unfolding payloadOf
-returns c = (rw (c .before .before .before .if1 .taken, le-leb _ _ (c .before .if2 .taken)), omega arith)
+returns c = (rw (c .before .before .before .if1 .taken, le-leb (c .before .before .before .before .args .self .b) 64 (omega arith)), omega arith)
 
 returns-2 : tie.Need-returns-2
 unfolding payloadOf
