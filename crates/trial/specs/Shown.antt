@@ -16,8 +16,8 @@ abbrev pub headLine : List ℕ → List ℕ → List ℕ
 headLine desks store = 0x48 ∷ [] ++ spaced (crcOf desks) ++ spaced (crcOf store) ++ newline
 
 -- "each slot whose five fields are not all zero"
-unfoldable pub allZero : Slot → Bool
-allZero x =
+unfoldable pub allFieldsZero : Slot → Bool
+allFieldsZero x =
     eqb (x .channel .0) 0 && eqb (x .application .0) 0 && eqb (x .bits) 0 && eqb (x .count .0) 0 && eqb (x .accepted) 0
 
 -- numbers, each behind a space

@@ -11,7 +11,7 @@ ghost use lib.ListN.{length};
 ghost use Rattle.octets.specs.Choice.{if_then_else_};
 ghost use Rattle.text.specs.Pieces.{Written};
 ghost use Rattle.state.specs.Blocks.{numbersOf};
-ghost use Rattle.trial.specs.Shown.{headLine, spacedAll, allZero, slotLine, channelLine};
+ghost use Rattle.trial.specs.Shown.{headLine, spacedAll, allFieldsZero, slotLine, channelLine};
 
 // The octets of the longest line: a letter, six numbers, as many as there can be blocks, and the line's end.
 const LINE: usize = 86144;
@@ -45,7 +45,7 @@ fn block_numbers(owner: u8, table: &[u8], out: &mut [u8], at: usize) -> usize
 }
 
 fn is_all_zero(x: Slot) -> bool
-    ensures { λ r. ⌜ r ≡ allZero x ⌝ }
+    ensures { λ r. ⌜ r ≡ allFieldsZero x ⌝ }
 {
     let channel = x.channel;
     if channel.0 != 0 {
