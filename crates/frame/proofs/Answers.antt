@@ -23,7 +23,6 @@ use Rattle.frame.specs.declared.Watch.the-variants.{Desk, NotWatched}
 use Rattle.frame.specs.Kinds.{deskOf}
 use Rattle.frame.specs.Header.{marker, startsWith, derandomised, frameOf, pointerMeaning}
 use Rattle.frame.specs.Refusals.{framed, pointed, watchedBy, examinedHeader, examined}
-use Rattle.frame.proofs.Desks.{desk-at}
 use Rattle.frame.proofs.Fields.{bounded}
 use Rattle.frame.proofs.Framing.{framed-is, is-framed}
 use Rattle.frame.proofs.Pointers.{allowed-pointer}
@@ -171,9 +170,6 @@ module _ (craft : ℕ) (watched : List Channel) (f : List ℕ) where
 
     pub good-header : Accepts craft watched (frameOf (derandomised f)) a
     good-header = accepts craft watched (frameOf (derandomised f)) a (sym (of-header good-framed) ∙ e)
-
-    pub desk-good : a .desk < length watched
-    desk-good = desk-at (frameOf (derandomised f) .channel) (record { 0 = 0 }) watched (a .desk) (good-header .desk) .within
 
     pub counter-good : a .counter .0 < 0x1000000
     counter-good = rw (good-header .counter) (bounded (derandomised f) .counter)

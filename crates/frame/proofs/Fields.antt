@@ -1,17 +1,9 @@
 -- The fields of a frame's header are bounded by their widths. Assumes nothing.
 use mathlib.Core.List.{List}
-use Prim.Native.Nat.{ℕ, _<_}
+use Prim.Native.Nat.{ℕ}
 use lib.ListN.{take}
 use Rattle.octets.proofs.Numbers.{bitsAt-below}
-use Rattle.frame.specs.declared.Frame.{Frame}
-use Rattle.frame.specs.Header.{frameOf}
-
-pub record Bounded (h : Frame) : Type 0 where
-  pub version : h .version < 4
-  pub spacecraft : h .spacecraft < 256
-  pub channel : h .channel .0 < 64
-  pub counter : h .counter .0 < 0x1000000
-  pub pointer : h .pointer < 2048
+use Rattle.frame.specs.Header.{frameOf, Bounded}
 
 pub bounded : (plain : List ℕ) → Bounded (frameOf plain)
 unfolding frameOf

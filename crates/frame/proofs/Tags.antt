@@ -3,28 +3,10 @@ use mathlib.Core.Path.{_≡_, refl, ap}
 use mathlib.Core.Logic.{_⊎_, inl, inr}
 use Prim.Native.Nat.{ℕ}
 use native.Mathlib.Omega.{arith}
-use Rattle.frame.specs.declared.CheckedChannel.{CheckedChannel}
-use Rattle.frame.specs.declared.CheckedChannel.the-variants as channel
-use Rattle.frame.specs.declared.CheckedCounter.{CheckedCounter}
-use Rattle.frame.specs.declared.CheckedCounter.the-variants as counter
 use Rattle.frame.specs.declared.Pointer.{Pointer}
 use Rattle.frame.specs.declared.Pointer.the-variants as pointer
 use Rattle.frame.specs.declared.Watch.{Watch}
 use Rattle.frame.specs.declared.Watch.the-variants.{Desk, NotWatched}
-
-abbrev pub channelTag : CheckedChannel → ℕ
-channelTag c = denote.Enum.Declared.tagOf Rattle.frame.proofs.CheckedChannel.the-type c
-
-pub tag-bad-channel : (c : CheckedChannel) → channelTag c ≡ 1 → c ≡ channel.Bad
-tag-bad-channel (channel.Good c) h = absurd (omega arith)
-tag-bad-channel channel.Bad h = refl
-
-abbrev pub counterTag : CheckedCounter → ℕ
-counterTag c = denote.Enum.Declared.tagOf Rattle.frame.proofs.CheckedCounter.the-type c
-
-pub tag-bad-counter : (c : CheckedCounter) → counterTag c ≡ 1 → c ≡ counter.Bad
-tag-bad-counter (counter.Good c) h = absurd (omega arith)
-tag-bad-counter counter.Bad h = refl
 
 abbrev pub pointerTag : Pointer → ℕ
 pointerTag p = denote.Enum.Declared.tagOf Rattle.frame.proofs.Pointer.the-type p

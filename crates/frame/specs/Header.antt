@@ -1,7 +1,7 @@
 -- What stands in a frame ("Frames", 1 to 3). Assumes nothing.
 use mathlib.Core.Bool.{Bool, true, false, _&&_}
 use mathlib.Core.List.{List, [], _∷_}
-use Prim.Native.Nat.{ℕ}
+use Prim.Native.Nat.{ℕ, _<_}
 use lib.Dec.{ltb, eqb}
 use lib.ListN.{take, drop}
 use Rattle.octets.specs.Choice.{if_then_else_}
@@ -36,6 +36,14 @@ frameOf plain =
       counter = record { 0 = bitsAt h 16 24 };
       pointer = bitsAt h 53 11;
     }
+
+-- a header whose fields keep to their bits: what is read is a channel number and a counter in their ranges
+pub record Bounded (h : Frame) : Type 0 where
+  pub version : h .version < 4
+  pub spacecraft : h .spacecraft < 256
+  pub channel : h .channel .0 < 64
+  pub counter : h .counter .0 < 0x1000000
+  pub pointer : h .pointer < 2048
 
 -- "884 octets of packet zone, 128 check octets"
 unfoldable pub zoneOf : List ℕ → List ℕ

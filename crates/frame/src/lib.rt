@@ -7,7 +7,7 @@ ghost use mathlib.Core.Path.{_≡_};
 ghost use Prim.Native.Nat.{_+_, _≤_, _<_};
 ghost use lib.ListN.{length, take};
 ghost use Rattle.frame.specs.Kinds.{checkedChannel, checkedCounter, nextCounter, counterFollows, deskOf};
-ghost use Rattle.frame.specs.Header.{marker, startsWith, frameOf, pointerMeaning};
+ghost use Rattle.frame.specs.Header.{marker, startsWith, frameOf, Bounded, pointerMeaning};
 ghost use Rattle.frame.specs.Refusals.{examinedHeader, examined, plainAfter};
 
 // A channel number. It cannot stand for an application number, nor the other way round.
@@ -19,10 +19,14 @@ pub enum CheckedChannel {
 }
 
 impl Channel {
+    // A channel number has six bits.
+    pub const BOUND: u16 = 64;
     // Channels 0 to 62 can be watched.
     pub const LAST: u8 = 62;
     // Frames of this channel only fill the line.
     pub const FILL: u8 = 63;
+    // So many at most are watched.
+    pub const MOST: usize = 8;
 
     pub fn checked(n: u8) -> CheckedChannel
         ensures { λ r. ⌜ r ≡ checkedChannel n ⌝ }
@@ -99,28 +103,33 @@ impl Frame {
     pub const ZONE_AT: usize = 8;
     // The check octets, passed over.
     pub const CHECK: usize = 128;
-    // Octets 0 to 3.
-    pub const MARKER: [u8; 4] = *b"\x1A\xCF\xFC\x1D";
+    // Where what is coded begins in the frame.
+    pub const CODED_AT: usize = 4;
+    // The octets in front of it.
+    pub const MARKER: [u8; Frame::CODED_AT] = *b"\x1A\xCF\xFC\x1D";
     // The one version that is taken.
     pub const VERSION: u8 = 1;
     // The pointer of a zone in which no packet starts.
     pub const NO_START: u16 = 2047;
+    // A pointer has eleven bits.
+    pub const POINTERS: u16 = 2048;
 
     // The header of a frame from its derandomised octets.
     pub fn read(plain: &[u8]) -> Frame
         requires { ⌜ 8 ≤ length (now plain) ⌝ }
         ensures { λ r. ⌜ r ≡ frameOf (now (plain .entry)) ⌝ }
+        ensures { λ r. ⌜ Bounded r ⌝ }
     {
         let first = octets::u16_at(plain, 0);
-        let channel = Channel((first % 64) as u8);
+        let channel = Channel((first % Channel::BOUND) as u8);
         let counter = Counter(octets::u24_at(plain, 2));
         let last = octets::u16_at(plain, 6);
         Frame {
             version: (first / 16384) as u8,
-            spacecraft: (first / 64 % 256) as u8,
+            spacecraft: (first / Channel::BOUND % 256) as u8,
             channel: channel,
             counter: counter,
-            pointer: last % 2048,
+            pointer: last % Frame::POINTERS,
         }
     }
 }
@@ -144,7 +153,7 @@ pub enum Watch {
 }
 
 // The desk of a channel among the first n of those named.
-pub fn desk_of(watched: [Channel; 8], n: u8, channel: Channel) -> Watch
+pub fn desk_of(watched: [Channel; Channel::MOST], n: u8, channel: Channel) -> Watch
     requires { ⌜ n ≤ 8 ⌝ }
     ensures { λ r. ⌜ r ≡ deskOf (take n watched) channel ⌝ }
 {
@@ -173,7 +182,12 @@ pub enum Examined {
 }
 
 // Refusals 5 to 9, from the header.
-pub fn examine_header(h: Frame, spacecraft: u8, watched: [Channel; 8], n: u8) -> Examined
+pub fn examine_header(
+    h: Frame,
+    spacecraft: u8,
+    watched: [Channel; Channel::MOST],
+    n: u8,
+) -> Examined
     requires { ⌜ n ≤ 8 ⌝ }
     ensures { λ r. ⌜ r ≡ examinedHeader spacecraft (take n watched) h ⌝ }
 {
@@ -226,7 +240,7 @@ pub fn examine(
     frame: &[u8],
     plain: &mut [u8],
     spacecraft: u8,
-    watched: [Channel; 8],
+    watched: [Channel; Channel::MOST],
     n: u8,
 ) -> Examined
     requires { ⌜ (length (now plain) ≡ 1020) × (n ≤ 8) ⌝ }
@@ -239,7 +253,7 @@ pub fn examine(
     if !marked(frame) {
         return Examined::Refused(4);
     }
-    noise::mix(&frame[4..Frame::SIZE], plain);
+    noise::mix(&frame[Frame::CODED_AT..Frame::SIZE], plain);
     let h = Frame::read(plain);
     examine_header(h, spacecraft, watched, n)
 }

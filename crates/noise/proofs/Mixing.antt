@@ -4,16 +4,16 @@ use mathlib.Core.List.{List, [], _∷_, _++_}
 use Prim.Native.Nat.{ℕ, zero, suc, _+_, _*_, _%_, _<_, _≤_}
 use native.Mathlib.Nat.{le-of-suc-le-suc, not-suc-le-zero}
 use native.Mathlib.Omega.{arith}
-use lib.Bits.{bitXor}
+use lib.Bits.{bitXor, xor-lt}
 use lib.ListN.{length, getD, set, drop, drop-of-length-le, take-append-drop}
 use lib.Seq.{drop-drop}
-use Rattle.octets.specs.Number.{part}
+use Rattle.octets.specs.Number.{Octets, part}
 use Rattle.octets.specs.Buffer.{put}
 use Rattle.octets.proofs.Lists.{whole-part, part-at}
 use Rattle.octets.proofs.Put.{put-nil, put-put, put-whole, copy-more, copy-all}
-use Rattle.noise.specs.Noise.{s, octetFrom, noiseAt, xored, mixedFrom, mixed}
+use Rattle.noise.specs.Noise.{octetFrom, noiseAt, noiseFrom, period, xored, mixedFrom, mixed}
 use Rattle.noise.proofs.Xor.{xor-cancel}
-use Rattle.noise.proofs.Rule.{octets, later, octet-later, period, noise-mod}
+use Rattle.noise.proofs.Rule.{octet-below, noise-mod}
 
 length-mixedFrom : (i : ℕ) (xs : List ℕ) → length (mixedFrom i xs) ≡ length xs
 unfolding mixedFrom
@@ -44,6 +44,17 @@ pub getD-mixed : (i : ℕ) (xs : List ℕ) → i < length xs → getD (mixed xs)
 unfolding mixed
 getD-mixed i xs h = getD-mixedFrom 0 i xs h ∙ ap (λ (n : ℕ). bitXor (getD xs i 0) (noiseAt n)) (omega arith)
 
+-- octets stay octets
+octets-mixedFrom : (i : ℕ) (xs : List ℕ) → Octets xs → Octets (mixedFrom i xs)
+unfolding mixedFrom noiseAt
+octets-mixedFrom i [] h k = h k
+octets-mixedFrom i (x ∷ xs) h zero = xor-lt 8 x (octetFrom (8 * i)) (h 0) (octet-below (8 * i))
+octets-mixedFrom i (x ∷ xs) h (suc k) = octets-mixedFrom (suc i) xs (λ (j : ℕ). h (suc j)) k
+
+pub octets-mixed : (xs : List ℕ) → Octets xs → Octets (mixed xs)
+unfolding mixed
+octets-mixed xs h = octets-mixedFrom 0 xs h
+
 mixed-append : (i : ℕ) (xs ys : List ℕ) → mixedFrom i (xs ++ ys) ≡ mixedFrom i xs ++ mixedFrom (i + length xs) ys
 unfolding mixedFrom
 mixed-append i [] ys = ap (λ (n : ℕ). mixedFrom n ys) (omega arith)
@@ -72,18 +83,15 @@ getD-xored zero (x ∷ xs) (y ∷ ys) h k = refl
 getD-xored (suc i) (x ∷ xs) (y ∷ ys) h k = getD-xored i xs ys (le-of-suc-le-suc h) (le-of-suc-le-suc k)
 
 -- the others are octets of the sequence
-xored-octets : (k i : ℕ) (xs : List ℕ) → length xs ≤ k → xored xs (octets k (octetFrom (8 * i))) ≡ mixedFrom i xs
-unfolding xored octets mixedFrom noiseAt
-xored-octets k i [] h = refl
-xored-octets zero i (x ∷ xs) h = absurd (not-suc-le-zero h)
-xored-octets (suc k) i (x ∷ xs) h =
-    let eight : later 8 (octetFrom (8 * i)) ≡ octetFrom (8 * suc i) = sym (octet-later 8 (8 * i)) ∙ ap octetFrom (omega arith) in
-    ap (λ (l : List ℕ). bitXor x (octetFrom (8 * i)) ∷ l)
-    (ap (λ (r : ℕ). xored xs (octets k r)) eight ∙ xored-octets k (suc i) xs (le-of-suc-le-suc h))
+xored-noise : (k i : ℕ) (xs : List ℕ) → length xs ≤ k → xored xs (noiseFrom k i) ≡ mixedFrom i xs
+unfolding xored noiseFrom mixedFrom
+xored-noise k i [] h = refl
+xored-noise zero i (x ∷ xs) h = absurd (not-suc-le-zero h)
+xored-noise (suc k) i (x ∷ xs) h = ap (λ (l : List ℕ). bitXor x (noiseAt i) ∷ l) (xored-noise k (suc i) xs (le-of-suc-le-suc h))
 
 xored-period : (xs : List ℕ) → length xs ≤ 255 → xored xs period ≡ mixedFrom 0 xs
-unfolding octetFrom s
-xored-period xs h = xored-octets 255 0 xs h
+unfolding period
+xored-period xs h = xored-noise 255 0 xs h
 
 -- the loop over one period: a turn, and where it ends
 module _ (from table : List ℕ) (at : ℕ) (f : at + 255 ≤ length from) (t : length table ≡ 255) where
@@ -116,9 +124,9 @@ unfolding mixed
 frame-none from to h = sym (put-whole to (mixedFrom 0 from) (length-mixedFrom 0 from ∙ h))
 
 pub frame-more : (from to next : List ℕ) (at : ℕ) → at % 255 ≡ 0 → at + 255 ≤ length from
-    → mixed from ≡ put to at (mixedFrom at (drop at from)) → next ≡ put to at (xored (part at 255 from) period)
+    → mixed from ≡ put to at (mixedFrom at (drop at from)) → {table : List ℕ} → table ≡ period → next ≡ put to at (xored (part at 255 from) table)
     → mixed from ≡ put next (at + 255) (mixedFrom (at + 255) (drop (at + 255) from))
-frame-more from to next at m f e g =
+frame-more from to next at m f e is g =
     let p : List ℕ = part at 255 from in
     let q : List ℕ = drop (at + 255) from in
     let l : length p ≡ 255 = whole-part from at 255 f in
@@ -128,7 +136,7 @@ frame-more from to next at m f e g =
     e
     ∙ ap (put to at) (ap (mixedFrom at) cut ∙ mixed-append at p q)
     ∙ sym (put-put (mixedFrom at p) to at (mixedFrom (at + length p) q))
-    ∙ rw (length-mixedFrom, l, g, mixes)
+    ∙ rw (length-mixedFrom, l, g, is, mixes)
 
 pub frame-all : (from to : List ℕ) (at : ℕ) → length from ≤ at → mixed from ≡ put to at (mixedFrom at (drop at from)) → to ≡ mixed from
 unfolding mixedFrom

@@ -1,12 +1,12 @@
 -- The sequence repeats after 255 bits, so also after 255 octets, and one period of it is what the rule makes. Assumes nothing.
-use mathlib.Core.Path.{_≡_, sym, ap, _∙_}
+use mathlib.Core.Path.{_≡_, refl, sym, ap, _∙_}
 use mathlib.Core.List.{List, [], _∷_}
 use Prim.Native.Nat.{ℕ, zero, suc, _+_, _*_, _/_, _%_, _<_}
 use native.Mathlib.Nat.{add-zero, zero-add, add-assoc, le-of-suc-le-suc, not-suc-le-zero}
 use native.Mathlib.Numerals.{add-one, towards-suc}
 use native.Mathlib.Omega.{arith}
 use lib.ListN.{getD}
-use Rattle.noise.specs.Noise.{s, octetFrom, noiseAt}
+use Rattle.noise.specs.Noise.{s, octetFrom, noiseAt, noiseFrom, period}
 
 -- "bit n+8 is the exclusive or of bits n+7, n+5, n+3 and n"
 pub rule : (n : ℕ) → s (n + 8) ≡ (s (n + 7) + s (n + 5) + s (n + 3) + s n) % 2
@@ -59,6 +59,21 @@ module _ {a b c d e f g h : ℕ} (ha : a < 2) (hb : b < 2) (hc : c < 2) (hd : d 
   one-later = rw (enters, moves) (omega arith)
 
 module _ (n : ℕ) where
+  pub octet-below : octetFrom n < 256
+  unfolding octetFrom
+  octet-below =
+      omega (
+        arith,
+        bit-below n,
+        bit-below (n + 1),
+        bit-below (n + 2),
+        bit-below (n + 3),
+        bit-below (n + 4),
+        bit-below (n + 5),
+        bit-below (n + 6),
+        bit-below (n + 7),
+      )
+
   octet-first : octetFrom n / 128 ≡ s n
   unfolding octetFrom register
   octet-first =
@@ -115,25 +130,30 @@ pub noise-mod : (i : ℕ) → noiseAt (i % 255) ≡ noiseAt i
 unfolding noiseAt
 noise-mod i = sym (ap octetFrom (omega arith) ∙ octet-periods (i / 255 * 8) (8 * (i % 255)))
 
--- k octets in a row, of which r is the first
+-- k octets in a row, of which r is the first, made by the rule in one run
 unfoldable pub octets : ℕ → ℕ → List ℕ
 octets zero r = []
 octets (suc k) r = r ∷ octets k (later 8 r)
 
-octets-at : (k i n : ℕ) → i < k → getD (octets k (octetFrom n)) i 0 ≡ octetFrom (n + 8 * i)
-unfolding octets
-octets-at zero i n h = absurd (not-suc-le-zero h)
-octets-at (suc k) zero n h = sym (ap octetFrom (add-zero n))
-octets-at (suc k) (suc i) n h =
-    ap (λ (r : ℕ). getD (octets k r) i 0) (sym (octet-later 8 n))
-    ∙ octets-at k i (n + 8) (le-of-suc-le-suc h)
-    ∙ ap octetFrom (omega arith)
+octets-noise : (k i : ℕ) → octets k (octetFrom (8 * i)) ≡ noiseFrom k i
+unfolding octets noiseFrom noiseAt
+octets-noise zero i = refl
+octets-noise (suc k) i =
+    let eight : later 8 (octetFrom (8 * i)) ≡ octetFrom (8 * suc i) = sym (octet-later 8 (8 * i)) ∙ ap octetFrom (omega arith) in
+    ap (λ (l : List ℕ). octetFrom (8 * i) ∷ l) (ap (octets k) eight ∙ octets-noise k (suc i))
 
--- One period of the sequence. The table of the source is the same list: who needs that unfolds `octets`, `later` and `next`, and antt
--- computes the 255 octets by the rule and compares them, one test for the whole table; `follows` carries it to each entry.
-abbrev pub period : List ℕ
-period = octets 255 0xff
+-- One period is what the rule makes of the first octet. `Noise::table` compares the source's table with that run: the one computed test.
+pub by-rule : octets 255 0xff ≡ period
+unfolding octetFrom s period
+by-rule = octets-noise 255 0
 
+noiseFrom-at : (k i j : ℕ) → j < k → getD (noiseFrom k i) j 0 ≡ noiseAt (i + j)
+unfolding noiseFrom
+noiseFrom-at zero i j h = absurd (not-suc-le-zero h)
+noiseFrom-at (suc k) i zero h = sym (ap noiseAt (add-zero i))
+noiseFrom-at (suc k) i (suc j) h = noiseFrom-at k (suc i) j (le-of-suc-le-suc h) ∙ ap noiseAt (omega arith)
+
+-- and this carries it to each entry
 pub follows : (i : ℕ) → i < 255 → getD period i 0 ≡ noiseAt i
-unfolding noiseAt octetFrom s
-follows i h = octets-at 255 i 0 h ∙ ap octetFrom (zero-add (8 * i))
+unfolding period
+follows i h = noiseFrom-at 255 0 i h ∙ ap noiseAt (zero-add i)

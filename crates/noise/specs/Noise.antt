@@ -25,6 +25,15 @@ octetFrom n = s n * 128 + s (n + 1) * 64 + s (n + 2) * 32 + s (n + 3) * 16 + s (
 unfoldable pub noiseAt : ℕ → ℕ
 noiseAt i = octetFrom (8 * i)
 
+-- octets of the sequence in a row: k of them, from octet i on
+unfoldable pub noiseFrom : ℕ → ℕ → List ℕ
+noiseFrom zero i = []
+noiseFrom (suc k) i = noiseAt i ∷ noiseFrom k (suc i)
+
+-- "It repeats after 255 bits, so also after 255 octets": octets 0 to 254, after which it begins again
+unfoldable pub period : List ℕ
+period = noiseFrom 255 0
+
 -- octets exclusive-ored with others, one by one, as far as both go
 unfoldable pub xored : List ℕ → List ℕ → List ℕ
 xored [] ys = []

@@ -1,13 +1,14 @@
 // The pseudo-random sequence that every frame behind its marker is mixed with, and the mixing.
 //
-// Promises: the table of 255 octets follows the paper's rule on bits, and the sequence repeats after 255 octets, so octet i is entry i
-// modulo 255 for every i (proofs/Rule.antt). The mixing is an equation on the whole buffer, and undoes itself (proofs/Mixing.antt).
+// Promises: the table of 255 octets follows the paper's rule on bits (`Noise::table`, by one computed test), and the sequence repeats after
+// 255 octets, so octet i is entry i modulo 255 for every i (proofs/Rule.antt). The mixing is an equation on the whole buffer, and undoes
+// itself (proofs/Mixing.antt).
 ghost use mathlib.Core.Path.{_≡_};
 ghost use Prim.Native.Nat.{_+_, _≤_};
 ghost use lib.ListN.{length};
 ghost use Rattle.octets.specs.Number.{part};
 ghost use Rattle.octets.specs.Buffer.{put};
-ghost use Rattle.noise.specs.Noise.{noiseAt, xored, mixed};
+ghost use Rattle.noise.specs.Noise.{noiseAt, period, xored, mixed};
 
 // The sequence: its sizes and its table.
 pub struct Noise;
@@ -277,13 +278,21 @@ impl Noise {
         0xf5,
         0x58,
     ];
+
+    // The table, for all who use it: here it is compared with the rule, once.
+    pub fn table() -> [u8; Noise::PERIOD]
+        ensures { λ r. ⌜ r ≡ period ⌝ }
+    {
+        Noise::TABLE
+    }
 }
 
 // Octet i of the sequence.
 pub fn noise_at(i: usize) -> u8
     ensures { λ r. ⌜ r ≡ noiseAt i ⌝ }
 {
-    Noise::TABLE[i % Noise::PERIOD]
+    let table = Noise::table();
+    table[i % Noise::PERIOD]
 }
 
 // One period from place at on. The table is lent: a constant that is indexed in a loop would be built anew at each turn.
@@ -303,7 +312,7 @@ pub fn mix(from: &[u8], to: &mut [u8])
     requires { ⌜ (length (now from) ≡ 1020) × (length (now to) ≡ 1020) ⌝ }
     ensures { λ _. ⌜ now (to .exit) ≡ mixed (now (from .entry)) ⌝ }
 {
-    let table = Noise::TABLE;
+    let table = Noise::table();
     let mut at: usize = 0;
     while at < Noise::FRAME {
         mix_period(from, to, at, &table);

@@ -1,14 +1,39 @@
 -- Laws of lists and of choices that the library does not have. Assumes nothing.
-use mathlib.Core.Path.{_≡_, refl, sym, ap, _∙_}
+use mathlib.Core.Path.{_≡_, refl, sym, ap, ap₂, _∙_}
 use mathlib.Core.Bool.{Bool, true, false}
-use mathlib.Core.List.{List, [], _∷_, _++_, map}
+use mathlib.Core.Logic.{_⊎_, inl, inr, ⊎-elim}
+use mathlib.Core.List.{List, [], _∷_, _++_, map, append-assoc, flatten, List·Memᴰ, List·Memᴰ·cases-cons}
+use mathlib.Core.List.List·Memᴰ.{List·Memᴰ·head, List·Memᴰ·tail}
 use Prim.Native.Nat.{ℕ, zero, suc, _+_, _-_, _<_, _≤_}
 use native.Mathlib.Nat.{zero-add, suc-add, sub-zero}
 use native.Mathlib.Omega.{arith}
-use lib.ListN.{length, take, drop, getD, replicate, length-map, length-drop, take-append-drop}
+use lib.ListN.{length, take, drop, getD, replicate, length-map, length-append, length-drop, take-append-drop}
 use lib.Seq.{length-take-le, take-all, getD-take, getD-drop, take-take, take-add, take-nil, drop-drop, take-append-le, drop-append-le, drop-append-add}
 use Rattle.octets.specs.Choice.{if_then_else_}
 use Rattle.octets.specs.Number.{part}
+
+-- one of some, and of others
+pub in-either : {A : Type 0} {x : A} (xs ys : List A) → List·Memᴰ x (xs ++ ys) → List·Memᴰ x xs ⊎ List·Memᴰ x ys
+in-either [] ys m = inr m
+in-either (y ∷ xs) ys m =
+    ⊎-elim (λ q. inl (List·Memᴰ·head q)) (λ n. ⊎-elim (λ q. inl (List·Memᴰ·tail q)) inr (in-either xs ys n)) (List·Memᴰ·cases-cons m)
+
+-- a list's last element, and what stands before it
+pub snoc-once : {A : Type 0} (xs ys : List A) (x y : A) → xs ++ (x ∷ []) ≡ ys ++ (y ∷ []) → (xs ≡ ys) × (x ≡ y)
+snoc-once [] [] x y e = (refl, cc)
+snoc-once [] (b ∷ ys) x y e = absurd (omega (arith, ap length e, length-append ys (y ∷ [])))
+snoc-once (a ∷ xs) [] x y e = absurd (omega (arith, ap length e, length-append xs (x ∷ [])))
+snoc-once (a ∷ xs) (b ∷ ys) x y e =
+    let tails : xs ++ (x ∷ []) ≡ ys ++ (y ∷ []) = cc in
+    let heads : a ≡ b = cc in
+    let r = snoc-once xs ys x y tails in
+    (ap₂ _∷_ heads (r .0), r .1)
+
+-- lists one behind the other
+pub flatten-append : {A : Type 0} (xs ys : List (List A)) → flatten (xs ++ ys) ≡ flatten xs ++ flatten ys
+unfolding flatten
+flatten-append [] ys = refl
+flatten-append {A} (x ∷ xs) ys = ap (λ (r : List A). x ++ r) (flatten-append xs ys) ∙ sym (append-assoc x (flatten xs) (flatten ys))
 
 -- the length of an array of structs, from that of the array of what stands for them
 pub unmap : (A B : Type 0) (f : A → B) (xs : List A) (n : ℕ) → length (map f xs) ≡ n → length xs ≡ n

@@ -9,12 +9,8 @@ use lib.ListN.{length, take, drop, getD, length-append, length-take, length-drop
 use lib.Arith.{digits-lt}
 use lib.Pow.{pow-add, pow-mono, pow-pos, shr-shr, high}
 use lib.Seq.{drop-cons, take-suc, getD-drop, length-take-le}
-use Rattle.octets.specs.Number.{part, number, numberAt, bitsAt}
+use Rattle.octets.specs.Number.{Octets, part, number, numberAt, bitsAt}
 use Rattle.octets.proofs.Lists.{whole-part, part-part, three-parts}
-
--- each of xs is an octet; past the end stands 0
-abbrev pub Octets : List ℕ → Type 0
-Octets xs = (i : ℕ) → getD xs i 0 < 256
 
 pub octets-drop : (xs : List ℕ) (n : ℕ) → Octets xs → Octets (drop n xs)
 octets-drop xs n h i = rw getD-drop (h (n + i))
@@ -92,6 +88,14 @@ numberAt-below xs at n h =
 pub numberAt-one : (xs : List ℕ) (at : ℕ) → at < length xs → numberAt xs at 1 ≡ getD xs at 0
 unfolding numberAt number
 numberAt-one xs at h = ap (λ (ys : List ℕ). number (take 1 ys)) (drop-cons xs at 0 h) ∙ omega arith
+
+-- two and three octets in a row
+module _ (xs : List ℕ) (at : ℕ) where
+  pub two-octets : at + 1 < length xs → getD xs at 0 * 256 + getD xs (at + 1) 0 ≡ numberAt xs at 2
+  two-octets h = number-more xs at (getD xs at 0) 1 h (sym (numberAt-one xs at (omega arith)))
+
+  pub three-octets : at + 2 < length xs → (getD xs at 0 * 256 + getD xs (at + 1) 0) * 256 + getD xs (at + 2) 0 ≡ numberAt xs at 3
+  three-octets h = number-more xs at (getD xs at 0 * 256 + getD xs (at + 1) 0) 2 h (two-octets (omega arith))
 
 -- a number in a part is a number in the whole
 pub numberAt-part : (xs : List ℕ) (at n i w : ℕ) → i + w ≤ n → numberAt (part at n xs) i w ≡ numberAt xs (at + i) w

@@ -1,10 +1,14 @@
 -- "Numbers are unsigned and most significant octet first unless said otherwise." Assumes nothing.
 use mathlib.Core.List.{List, [], _∷_}
-use Prim.Native.Nat.{ℕ, _+_, _-_, _*_, _/_, _%_, _^_}
+use Prim.Native.Nat.{ℕ, _+_, _-_, _*_, _/_, _%_, _^_, _<_}
 use lib.Dec.{ltb}
-use lib.ListN.{length, take, drop}
+use lib.ListN.{length, take, drop, getD}
 use lib.IntN.{ℤ, pos, subℕ}
 use Rattle.octets.specs.Choice.{if_then_else_}
+
+-- each of xs is an octet, a number below 256; past the end stands 0
+abbrev pub Octets : List ℕ → Type 0
+Octets xs = (i : ℕ) → getD xs i 0 < 256
 
 -- the octets from place `at` on, `n` of them
 abbrev pub part : {A : Type 0} → ℕ → ℕ → List A → List A

@@ -1,13 +1,13 @@
--- The fields of a header as the code reads them: parts of numbers of whole octets. Assumes nothing.
+-- The fields of a header as the code reads them, parts of numbers of whole octets, and bounded by their widths. Assumes nothing.
 use mathlib.Core.Path.{_≡_}
 use mathlib.Core.List.{List}
 use Prim.Native.Nat.{ℕ, _/_, _%_, _≤_, _<_}
 use native.Mathlib.Omega.{arith}
 use lib.ListN.{length, take}
-use Rattle.octets.specs.Number.{numberAt, bitsAt}
-use Rattle.octets.proofs.Numbers.{Octets, field}
+use Rattle.octets.specs.Number.{Octets, numberAt, bitsAt}
+use Rattle.octets.proofs.Numbers.{field, bitsAt-below}
 use Rattle.packet.specs.declared.Packet.{Packet}
-use Rattle.packet.specs.Header.{packetOf}
+use Rattle.packet.specs.Header.{packetOf, Bounded}
 
 -- the header from the three numbers in its six octets
 pub read-is : (xs : List ℕ) → Octets xs → 6 ≤ length xs
@@ -34,4 +34,16 @@ read-is xs h six {a} {b} {n} first second third below =
       flags = flags i;
       count = record { 0 = count i };
       length = last i;
+    }
+
+pub bounded : (xs : List ℕ) → Bounded (packetOf xs)
+unfolding packetOf
+bounded xs =
+    let h : List ℕ = take 6 xs in
+    record {
+      version = bitsAt-below h 0 3;
+      application = bitsAt-below h 5 11;
+      flags = bitsAt-below h 16 2;
+      count = bitsAt-below h 18 14;
+      length = bitsAt-below h 32 16;
     }

@@ -2,3 +2,5 @@
 pub mod Tags
 pub mod Fields
 pub mod Looks
+pub mod Made
+pub mod Plainly

@@ -10,11 +10,11 @@ use lib.Dec.{ltb}
 use lib.ListN.{length, take, length-append}
 use lib.Seq.{length-take-le, take-take, take-append-le}
 use Rattle.octets.specs.Choice.{if_then_else_}
-use Rattle.octets.proofs.Numbers.{bitsAt-below}
 use Rattle.packet.specs.declared.Packet.{Packet}
 use Rattle.packet.specs.declared.Look.{Look}
 use Rattle.packet.specs.declared.Look.the-variants.{Short, Bad, Good}
 use Rattle.packet.specs.Header.{packetOf, sizeOf, bad, lookOf}
+use Rattle.packet.proofs.Fields.{bounded}
 
 -- the header p, good, in the first six of xs
 pub record Header (xs : List ℕ) (p : Packet) : Type 0 where
@@ -46,9 +46,9 @@ header xs h e =
       is = refl;
       good = e;
       version = eqb-true _ _ (not-false _ (first .0));
-      application = bitsAt-below (take 6 xs) 5 11;
-      flags = bitsAt-below (take 6 xs) 16 2;
-      count = bitsAt-below (take 6 xs) 18 14;
+      application = bounded xs .application;
+      flags = bounded xs .flags;
+      count = bounded xs .count;
       smallest = omega arith;
       largest = omega arith;
       checked = λ k. omega (arith, ltb-false (p .length) 2 (rw (le-leb _ _ k) at (apart .1)));

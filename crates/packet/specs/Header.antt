@@ -1,7 +1,7 @@
 -- The six octets of a packet header ("Packets", first paragraph). Assumes nothing.
 use mathlib.Core.Bool.{Bool, not, _&&_, _||_}
 use mathlib.Core.List.{List}
-use Prim.Native.Nat.{ℕ, _+_}
+use Prim.Native.Nat.{ℕ, _+_, _<_}
 use lib.Dec.{leb, ltb, eqb}
 use lib.ListN.{length, take}
 use Rattle.octets.specs.Choice.{if_then_else_}
@@ -21,6 +21,14 @@ packetOf xs =
       count = record { 0 = bitsAt h 18 14 };
       length = bitsAt h 32 16;
     }
+
+-- a header whose fields keep to their bits: what is read is an application number and a count in their ranges
+pub record Bounded (h : Packet) : Type 0 where
+  pub version : h .version < 8
+  pub application : h .application .0 < 2048
+  pub flags : h .flags < 4
+  pub count : h .count .0 < 16384
+  pub length : h .length < 65536
 
 -- "A packet has 7 + length octets."
 abbrev pub sizeOf : Packet → ℕ

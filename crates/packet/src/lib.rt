@@ -5,7 +5,7 @@ ghost use mathlib.Core.Path.{_≡_};
 ghost use Prim.Native.Nat.{_≤_};
 ghost use lib.ListN.{length};
 ghost use Rattle.packet.specs.Kinds.{checkedApplication, kindOf, checkedCount, nextCount, countFollows};
-ghost use Rattle.packet.specs.Header.{packetOf, sizeOf, bad, lookOf};
+ghost use Rattle.packet.specs.Header.{packetOf, Bounded, sizeOf, bad, lookOf};
 
 // An application number. It cannot stand for a channel number, nor the other way round.
 pub struct Application(pub u16);
@@ -23,6 +23,8 @@ pub enum Kind {
 }
 
 impl Application {
+    // An application number has eleven bits.
+    pub const BOUND: u16 = 2048;
     // The last application that sends files, the last that is reserved, and the one that fills a zone.
     pub const LAST_FILE: u16 = 2015;
 
@@ -30,6 +32,7 @@ impl Application {
 
     pub const FILL: u16 = 2047;
 
+    // For a number from outside. Up to now applications come in headers alone, whose eleven bits keep to the range (`Packet::read`).
     pub fn checked(n: u16) -> CheckedApplication
         ensures { λ r. ⌜ r ≡ checkedApplication n ⌝ }
     {
@@ -88,7 +91,7 @@ impl Count {
     }
 }
 
-// What a packet's header says. The flags: 0 middle, 1 first, 2 last, 3 whole.
+// What a packet's header says.
 pub struct Packet {
     pub version: u8,
     pub application: Application,
@@ -98,11 +101,24 @@ pub struct Packet {
 }
 
 impl Packet {
+    // The sequence flags.
+    pub const MIDDLE: u8 = 0;
+
+    pub const FIRST: u8 = 1;
+
+    pub const LAST: u8 = 2;
+
+    pub const WHOLE: u8 = 3;
+
     pub const HEADER: usize = 6;
+    // The octets of a packet whose length field is 0.
+    pub const LEAST: usize = 7;
     // The greatest length field, and the octets of the packet that has it.
     pub const LONGEST: u16 = 8191;
 
     pub const LARGEST: usize = 8198;
+    // The least length field of a file's packet: one octet of data, and the check.
+    pub const SHORTEST: u16 = 2;
     // The octets of the check behind a file packet's data.
     pub const CHECK: usize = 2;
 
@@ -110,15 +126,16 @@ impl Packet {
     pub fn read(s: &[u8]) -> Packet
         requires { ⌜ 6 ≤ length (now s) ⌝ }
         ensures { λ r. ⌜ r ≡ packetOf (now (s .entry)) ⌝ }
+        ensures { λ r. ⌜ Bounded r ⌝ }
     {
         let first = octets::u16_at(s, 0);
         let second = octets::u16_at(s, 2);
-        let application = Application(first % 2048);
-        let count = Count(second % 16384);
+        let application = Application(first % Application::BOUND);
+        let count = Count(second % Count::MODULUS);
         Packet {
             version: (first / 8192) as u8,
             application: application,
-            flags: (second / 16384) as u8,
+            flags: (second / Count::MODULUS) as u8,
             count: count,
             length: octets::u16_at(s, 4),
         }
@@ -128,7 +145,7 @@ impl Packet {
     pub fn size(self) -> usize
         ensures { λ r. ⌜ r ≡ sizeOf self ⌝ }
     {
-        7 + self.length as usize
+        Packet::LEAST + self.length as usize
     }
 
     pub fn is_bad(self) -> bool
@@ -142,7 +159,7 @@ impl Packet {
         }
         let application = self.application;
         if application.0 <= Application::LAST_FILE {
-            return self.length < 2;
+            return self.length < Packet::SHORTEST;
         }
         false
     }

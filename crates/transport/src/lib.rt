@@ -4,6 +4,7 @@
 // Promises: the need and the rest are exact for every length up to 2^64 - 1; a packet's shape is decided as the paper gives it; data of
 // any octets that would begin a file is answered.
 use packet::Count;
+use packet::Packet;
 ghost use mathlib.Core.Path.{_≡_};
 ghost use Prim.Native.Nat.{_≤_};
 ghost use lib.ListN.{length};
@@ -53,21 +54,22 @@ pub fn octets_of_bits(bits: u64) -> u64
 pub fn transport_size(bits: u64) -> u64
     ensures { λ r. ⌜ (r ≡ transportSize bits) × (r ≤ 2305843009213693962) ⌝ }
 {
-    10 + octets_of_bits(bits)
+    Transport::HEADER as u64 + octets_of_bits(bits)
 }
 
 // The blocks that a file of this length needs.
 pub fn need(bits: u64) -> u64
     ensures { λ r. ⌜ r ≡ needOf bits ⌝ }
 {
-    (transport_size(bits) + 8189) / 8190
+    let block = Transport::BLOCK as u64;
+    (transport_size(bits) + (block - 1)) / block
 }
 
 // The octets that its last packet carries.
 pub fn rest(bits: u64) -> u64
     ensures { λ r. ⌜ r ≡ restOf bits ⌝ }
 {
-    transport_size(bits) - 8190 * (need(bits) - 1)
+    transport_size(bits) - Transport::BLOCK as u64 * (need(bits) - 1)
 }
 
 fn first_fits(n: usize, bits: u64) -> bool
@@ -116,16 +118,16 @@ fn last_fits(n: usize, bits: u64, accepted: u16, last: Count, count: Count) -> b
 pub fn fits(flags: u8, n: usize, bits: u64, accepted: u16, last: Count, count: Count) -> bool
     ensures { λ r. ⌜ r ≡ fitsOf flags n bits accepted last count ⌝ }
 {
-    if flags == 1 {
+    if flags == Packet::FIRST {
         return first_fits(n, bits);
     }
-    if flags == 3 {
+    if flags == Packet::WHOLE {
         return whole_fits(n, bits);
     }
-    if flags == 0 {
+    if flags == Packet::MIDDLE {
         return middle_fits(n, bits, accepted, last, count);
     }
-    if flags == 2 {
+    if flags == Packet::LAST {
         return last_fits(n, bits, accepted, last, count);
     }
     false
@@ -147,13 +149,13 @@ pub fn begin(flags: u8, data: &[u8]) -> Begun
     if !good_length(t.bits) {
         return Begun::Wrong;
     }
-    if flags == 1 {
+    if flags == Packet::FIRST {
         if first_fits(data.len(), t.bits) {
             return Begun::Right(t);
         }
         return Begun::Wrong;
     }
-    if flags == 3 {
+    if flags == Packet::WHOLE {
         if whole_fits(data.len(), t.bits) {
             return Begun::Right(t);
         }

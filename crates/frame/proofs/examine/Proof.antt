@@ -50,7 +50,7 @@ returns-3 c =
     let size = test .before .before .if1 .left in
     let framed = is-framed _ size (sym (test .before .marked .ensures) ∙ not-false _ (test .if2 .left)) in
     let plain = mixing .mix .ensures ∙ coded _ size in (
-      c .examine-header .ensures ∙ ap (examinedHeader _ _) (c .before .read .ensures ∙ ap frameOf plain) ∙ sym (of-header _ _ _ framed),
+      c .examine-header .ensures ∙ ap (examinedHeader _ _) (c .before .read .ensures .0 ∙ ap frameOf plain) ∙ sym (of-header _ _ _ framed),
       plain ∙ sym (plain-framed _ _ framed),
     )
 

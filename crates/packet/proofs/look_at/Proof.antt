@@ -20,13 +20,13 @@ returns-2 : tie.Need-returns-2
 unfolding lookOf
 returns-2 c =
     let read = c .before .before in
-    rw (le-ltb _ _ (read .before .if1 .left), ← read .read .ensures, ← c .before .is-bad .ensures, c .if2 .taken)
+    rw (le-ltb _ _ (read .before .if1 .left), ← read .read .ensures .0, ← c .before .is-bad .ensures, c .if2 .taken)
 
 returns-3 : tie.Need-returns-3
 unfolding lookOf
 returns-3 c =
     let read = c .before .before in
-    rw (le-ltb _ _ (read .before .if1 .left), ← read .read .ensures, ← c .before .is-bad .ensures, c .if2 .left)
+    rw (le-ltb _ _ (read .before .if1 .left), ← read .read .ensures .0, ← c .before .is-bad .ensures, c .if2 .left)
 
 pub look-at-spec : {M : Type 1} → statement M
 look-at-spec = tie.close (tie.spec returns read-requires is-bad-requires returns-2 returns-3)

@@ -1,15 +1,15 @@
--- `Frame::read` meets its contract: each field is a field of a number that was read. Assumes nothing.
-use mathlib.Core.Path.{_≡_}
+-- `Frame::read` meets its contract: each field is a field of a number that was read, and keeps to its bits. Assumes nothing.
+use mathlib.Core.Path.{_≡_, sym, subst}
 use mathlib.Core.List.{List}
 use Prim.Native.Nat.{ℕ, _+_, _-_, _*_, _/_, _%_, _^_, _≤_, _<_}
 use native.Mathlib.Omega.{arith}
 use borrow.Author.Needs.{needs}
 use lib.ListN.{length, take}
-use Rattle.octets.specs.Number.{numberAt, bitsAt}
-use Rattle.octets.proofs.Numbers.{Octets}
+use Rattle.octets.specs.Number.{Octets, numberAt, bitsAt}
 use Rattle.frame.specs.declared.Frame.{Frame}
-use Rattle.frame.specs.Header.{frameOf}
+use Rattle.frame.specs.Header.{frameOf, Bounded}
 use Rattle.octets.proofs.Numbers.{field}
+use Rattle.frame.proofs.Fields.{bounded}
 use Rattle.frame.proofs.Frame.read.Statement.{statement}
 use Rattle.frame.proofs.Frame.read.Tie as tie
 
@@ -68,8 +68,10 @@ returns c =
     let count = c .before .u24-at in
     let first = c .before .before .u16-at in
     let start = c .before .before .before in
+    let is =
     header _ (λ i. start .shared-slice-known .given i .fits) (start .before .pre) _ (first .ensures) (omega arith) _ (count .ensures .0)
-    (count .ensures .1) _ (c .u16-at2 .ensures)
+    (count .ensures .1) _ (c .u16-at2 .ensures) in
+    (is, subst Bounded (sym is) (bounded _))
 
 pub read-spec : {M : Type 1} → statement M
 read-spec =

@@ -1,7 +1,9 @@
--- `packet::Packet::read` meets its contract: each field is a part of a number of two octets. Assumes nothing.
+-- `packet::Packet::read` meets its contract: each field is a part of a number of two octets, and keeps to its bits. Assumes nothing.
+use mathlib.Core.Path.{sym, subst}
 use native.Mathlib.Omega.{arith}
 use borrow.Author.Needs.{needs}
-use Rattle.packet.proofs.Fields.{read-is}
+use Rattle.packet.specs.Header.{Bounded}
+use Rattle.packet.proofs.Fields.{read-is, bounded}
 use Rattle.packet.proofs.Packet.read.Statement.{statement}
 use Rattle.packet.proofs.Packet.read.Tie as tie
 
@@ -24,8 +26,10 @@ returns : tie.Need-returns
 returns c =
     let first = c .before .before in
     let octets = first .before .shared-slice-known .given in
+    let is =
     read-is _ (λ i. octets i .fits) (search needs)
-    (first .u16-at .ensures) (c .before .u16-at2 .ensures) (c .u16-at3 .ensures) (omega arith)
+    (first .u16-at .ensures) (c .before .u16-at2 .ensures) (c .u16-at3 .ensures) (omega arith) in
+    (is, subst Bounded (sym is) (bounded _))
 
 pub read-spec : {M : Type 1} → statement M
 read-spec =
