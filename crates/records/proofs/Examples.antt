@@ -9,7 +9,7 @@ use Rattle.octets.specs.Each.{each}
 use Rattle.octets.specs.Number.{number, numberAt}
 use Rattle.records.specs.Table.{lengthOf}
 use Rattle.records.specs.Records.{recordAt, isCut, after, recordsFrom, records, seenIn, recordsSay, octetsFor, headerSays, nth, placeOf}
-use Rattle.records.specs.Reader.{primaryOf, imageAt, segmentAt, imageOf, navigationOf, nameOf, timeOf, segmentOf, fieldsOf, readHeader, readRecord, headerNumber}
+use Rattle.records.specs.Reader.{primaryOf, imageAt, segmentAt, imageOf, navigationOf, nameOf, timeOf, segmentOf, fieldsOf, refusedHeader, readHeader, readRecord, headerNumber}
 use Rattle.records.specs.Together.{Accepted}
 use Rattle.records.specs.declared.HeaderAnswer.{HeaderAnswer}
 use Rattle.records.specs.declared.HeaderRead.the-variants.{Read}
@@ -61,6 +61,27 @@ picture-last = refl
 pub picture-none : readRecord picture 3 ≡ Refused 27
 unfolding headerSays records recordsFrom recordAt isCut after recordsSay seenIn octetsFor lengthOf numberAt number nth readRecord
 picture-none = refl
+
+-- a text file that is all header, with nothing but its primary record
+pub alone-read : _≡_ {A = HeaderAnswer} (readHeader (0 ∷ 0 ∷ 16 ∷ 2 ∷ 0 ∷ 0 ∷ 0 ∷ 16 ∷ replicate 8 0))
+    (record {
+      read = Read
+          (record {
+            primary = record { filetype = 2; length = 16; bits = 0 };
+            image = image.Absent;
+            navigation = navigation.Absent;
+            time = time.Absent;
+            segment = segment.Absent;
+          });
+      name = replicate 32 0;
+    })
+unfolding headerSays records recordsFrom recordAt isCut after recordsSay seenIn octetsFor lengthOf numberAt number placeOf primaryOf imageAt segmentAt imageOf navigationOf nameOf timeOf segmentOf fieldsOf readHeader
+alone-read = refl
+
+-- a file of one octet
+pub one-octet : (x : ℕ) → readHeader (x ∷ []) ≡ refusedHeader 20
+unfolding headerSays readHeader
+one-octet x = refl
 
 -- a header, with the number that answers it
 pub record Case : Type 0 where

@@ -11,8 +11,8 @@ use Rattle.octets.proofs.Put.{put-whole}
 use Rattle.records.specs.Reader.{nameAt}
 
 pub name-copied : (header : List ℕ) (p : ℕ) {name : List ℕ} → p + 51 ≤ length header
-    → name ≡ put (replicate 32 0) 0 (take (p + 35 - (p + 3)) (drop (p + 3) header)) → name ≡ nameAt header p
+    → name ≡ put (replicate 32 0) 0 (take (p + 3 + 32 - (p + 3)) (drop (p + 3) header)) → name ≡ nameAt header p
 unfolding nameAt
 name-copied header p h e =
-    let size : p + 35 - (p + 3) ≡ 32 = omega arith in
+    let size : p + 3 + 32 - (p + 3) ≡ 32 = omega arith in
     e ∙ rw size (put-whole (replicate 32 0) (part (p + 3) 32 header) (whole-part header (p + 3) 32 (omega arith)))

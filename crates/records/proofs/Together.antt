@@ -183,7 +183,7 @@ module _ (high : ℕ) (h : 26 ≤ high) where
       ((omega arith, omega arith), ((omega arith, omega arith), ((omega arith, omega arith), tt)))
       (records-between end (r ∷ before) rs)
 
-  header-between : (file : List ℕ) → Between 20 high (headerSays file)
+  pub header-between : (file : List ℕ) → Between 20 high (headerSays file)
   unfolding headerSays
   header-between file =
       let says = recordByRecord (headerOf file) in

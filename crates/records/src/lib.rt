@@ -1,8 +1,8 @@
 // The header records of a file: the primary record, and the others that follow it up to the header's length.
 //
 // Owns the table of record types whose length is fixed, the walk over a header, and refusals 20 to 27. Promises: any octets are answered;
-// each answer is an equation over the list of the header's records (specs/Records.antt); nothing is added that could wrap, whatever lengths
-// the octets claim.
+// each answer is an equation over the list of the header's records (specs/Records.antt), and says the paper's number and values
+// (specs/Answers.antt); nothing is added that could wrap, whatever lengths the octets claim.
 ghost use mathlib.Core.Path.{_≡_};
 ghost use mathlib.Core.List.{[]};
 ghost use Prim.Native.Nat.{_+_, _^_, _≤_, _<_};
@@ -11,6 +11,7 @@ ghost use Rattle.octets.specs.Reasons.{decided};
 ghost use Rattle.records.specs.Table.{fixedTypes, lengthOf};
 ghost use Rattle.records.specs.Records.{recordAt, isCut, after, records, typeSays, recordSays, recordByRecord, octetsFor, sizeSays, headerSays, nth, placeOf};
 ghost use Rattle.records.specs.Reader.{Fine, primaryOf, imageAt, navigationAt, nameAt, timeAt, segmentAt, imageOf, navigationOf, nameOf, timeOf, segmentOf, fieldsOf, refusedHeader, readHeader, readRecord};
+ghost use Rattle.records.specs.Answers.{headerSaid, recordSaid, headerGives, recordGives};
 
 // A record: its type, its place in the header, and its length.
 pub struct Record {
@@ -34,6 +35,10 @@ impl Primary {
     pub const KIND: u8 = 0;
 
     pub const SIZE: usize = 16;
+    // Where the header's length and the data field's bits stand.
+    pub const LENGTH_AT: usize = 4;
+
+    pub const BITS_AT: usize = 8;
 }
 
 pub struct Image {
@@ -301,7 +306,7 @@ fn judge(file: &[u8]) -> Judged
     if octets::u16_at(file, 1) as usize != Primary::SIZE {
         return Judged::Refused(21);
     }
-    let length = octets::u32_at(file, 4);
+    let length = octets::u32_at(file, Primary::LENGTH_AT);
     let end = length as usize;
     if end < Primary::SIZE {
         return Judged::Refused(22);
@@ -312,7 +317,7 @@ fn judge(file: &[u8]) -> Judged
     let judged = judge_records(&file[0..end]);
     match judged {
         Judged::Refused(n) => Judged::Refused(n),
-        Judged::Good => judge_size(file.len(), length, octets::u64_at(file, 8)),
+        Judged::Good => judge_size(file.len(), length, octets::u64_at(file, Primary::BITS_AT)),
     }
 }
 
@@ -353,8 +358,8 @@ fn primary_fields(header: &[u8]) -> Primary
 {
     Primary {
         filetype: header[3],
-        length: octets::u32_at(header, 4),
-        bits: octets::u64_at(header, 8),
+        length: octets::u32_at(header, Primary::LENGTH_AT),
+        bits: octets::u64_at(header, Primary::BITS_AT),
     }
 }
 
@@ -382,13 +387,13 @@ fn navigation_at(header: &[u8], p: usize) -> Navigation
     }
 }
 
-fn name_at(header: &[u8], p: usize) -> [u8; 32]
+fn name_at(header: &[u8], p: usize) -> [u8; Navigation::NAME]
     requires { ⌜ p + 51 ≤ length (now header) ⌝ }
     ensures { λ r. ⌜ r ≡ nameAt (now (header .entry)) p ⌝ }
 {
     let mut name = [0u8; Navigation::NAME];
-    let from = p + 3;
-    let to = p + 35;
+    let from = p + Record::LEAST;
+    let to = from + Navigation::NAME;
     octets::copy(&header[from..to], &mut name, 0);
     name
 }
@@ -435,7 +440,7 @@ fn navigation_fields(header: &[u8]) -> ImageNavigation
     }
 }
 
-fn name_octets(header: &[u8]) -> [u8; 32]
+fn name_octets(header: &[u8]) -> [u8; Navigation::NAME]
     requires { ⌜ Fine (now header) ⌝ }
     ensures { λ r. ⌜ r ≡ nameOf (now (header .entry)) ⌝ }
 {
@@ -495,12 +500,13 @@ fn fields(header: &[u8]) -> HeaderAnswer
 // The fixed fields of a file's header. Answers 0, or 20 to 26.
 pub fn read_header(file: &[u8]) -> HeaderAnswer
     ensures { λ r. ⌜ r ≡ readHeader (now (file .entry)) ⌝ }
+    ensures { λ r. ⌜ headerSaid r ≡ headerGives (now (file .entry)) ⌝ }
 {
     let judged = judge(file);
     match judged {
         Judged::Refused(n) => refused_header(n),
         Judged::Good => {
-            let end = octets::u32_at(file, 4) as usize;
+            let end = octets::u32_at(file, Primary::LENGTH_AT) as usize;
             fields(&file[0..end])
         }
     }
@@ -509,12 +515,13 @@ pub fn read_header(file: &[u8]) -> HeaderAnswer
 // Record n of a file's header, from 0: its type, place and length. Answers 0, or 20 to 27.
 pub fn read_record(file: &[u8], n: usize) -> RecordAnswer
     ensures { λ r. ⌜ r ≡ readRecord (now (file .entry)) n ⌝ }
+    ensures { λ r. ⌜ recordSaid r ≡ recordGives (now (file .entry)) n ⌝ }
 {
     let judged = judge(file);
     match judged {
         Judged::Refused(n) => RecordAnswer::Refused(n),
         Judged::Good => {
-            let end = octets::u32_at(file, 4) as usize;
+            let end = octets::u32_at(file, Primary::LENGTH_AT) as usize;
             find_record(&file[0..end], n)
         }
     }

@@ -5,6 +5,7 @@ use Rattle.records.specs.Records.{headerSays, headerOf}
 use Rattle.records.specs.Reader.{fieldsOf, refusedHeader, readHeader}
 use Rattle.records.proofs.Passing.{Accepts}
 use Rattle.records.proofs.Answering.{good-accepts, header-part, header-fine, answered}
+use Rattle.records.proofs.Said.{header-told}
 use borrow.Author.Needs.{needs}
 use Rattle.records.proofs.read_header.Statement.{statement}
 use Rattle.records.proofs.read_header.Tie as tie
@@ -47,15 +48,17 @@ returns : tie.Need-returns
 unfolding readHeader
 returns c =
     let judged = c .before .before .before .before in
-    c .refused-header .ensures ∙ sym (answered (headerSays _) _ refusedHeader (judged .judge .ensures) (c .before .before .judged .given .1))
+    header-told _
+    (c .refused-header .ensures ∙ sym (answered (headerSays _) _ refusedHeader (judged .judge .ensures) (c .before .before .judged .given .1)))
 
 returns-2 : tie.Need-returns-2
 unfolding readHeader
 returns-2 c =
     let file = c .before .before .before .before .before .before .before .args .file .now in
     let told = c .before .before .before in
-    c .fields .ensures ∙ ap fieldsOf (header-part file (c .before .before .u32-at .ensures))
-    ∙ sym (answered (headerSays file) (fieldsOf (headerOf file)) refusedHeader (told .before .before .judge .ensures) (told .enum-told .given .1))
+    header-told _
+    (c .fields .ensures ∙ ap fieldsOf (header-part file (c .before .before .u32-at .ensures))
+    ∙ sym (answered (headerSays file) (fieldsOf (headerOf file)) refusedHeader (told .before .before .judge .ensures) (told .enum-told .given .1)))
 
 pub read-header-spec : {M : Type 1} → statement M
 read-header-spec =

@@ -8,6 +8,7 @@ use Rattle.records.specs.Reader.{readRecord}
 use Rattle.records.specs.declared.RecordAnswer.the-variants.{Refused}
 use Rattle.records.proofs.Passing.{Accepts}
 use Rattle.records.proofs.Answering.{good-accepts, header-part, answered}
+use Rattle.records.proofs.Said.{record-told}
 use borrow.Author.Needs.{needs}
 use Rattle.records.proofs.read_record.Statement.{statement}
 use Rattle.records.proofs.read_record.Tie as tie
@@ -47,17 +48,18 @@ returns : tie.Need-returns
 unfolding readRecord
 returns c =
     let judged = c .before .before .before in
-    sym (answered (headerSays _) _ Refused (judged .judge .ensures) (c .before .judged .given .1))
+    record-told _ _ (sym (answered (headerSays _) _ Refused (judged .judge .ensures) (c .before .judged .given .1)))
 
 returns-2 : tie.Need-returns-2
 unfolding readRecord
 returns-2 c =
     let start = c .before .before .before .before .before .before .before .args in
     let told = c .before .before .before in
-    c .find-record .ensures ∙ ap (λ (h : List ℕ). nth (records h) (start .n)) (header-part (start .file .now) (c .before .before .u32-at .ensures))
+    record-told _ _
+    (c .find-record .ensures ∙ ap (λ (h : List ℕ). nth (records h) (start .n)) (header-part (start .file .now) (c .before .before .u32-at .ensures))
     ∙ sym
     (answered (headerSays (start .file .now)) (nth (records (headerOf (start .file .now))) (start .n)) Refused (told .before .before .judge .ensures)
-    (told .enum-told .given .1))
+    (told .enum-told .given .1)))
 
 pub read-record-spec : {M : Type 1} → statement M
 read-record-spec =
