@@ -15,7 +15,7 @@ use Rattle.judge.proofs.Parts.{openEvents, whole-smallest, whole-checke
 use Rattle.judge.proofs.Parts.Begins.{wrong-shape, no-slot, no-room, opens-at}
 use Rattle.judge.proofs.Parts.Judges.{fill, other, damaged, begins-new, begins-over, stray, goes-on, breaks-off}
 
-opens-few : (h : Packet) (k : ℕ) → length (openEvents h k) ≤ 2
+pub opens-few : (h : Packet) (k : ℕ) → length (openEvents h k) ≤ 2
 opens-few h k =
     if-cases (λ (es : List Event). length (at 10 (h .application .0) k ∷ es) ≤ 2) (eqb (h .flags) 3) (λ e. omega arith) (λ e. omega arith)
 

@@ -4,6 +4,7 @@ pub mod Parts
 pub mod Flat
 pub mod Few
 pub mod Keeps
+pub mod Most
 pub mod Steps
 pub mod Exact
 pub mod Writing

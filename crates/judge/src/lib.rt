@@ -33,13 +33,22 @@ pub struct Told {
     pub events: usize,
 }
 
-// One event more: kind, application, slot.
+// An event in the list: kind, application, slot.
+pub struct Event;
+
+impl Event {
+    pub const NUMBERS: usize = 3;
+    // No frame gives more.
+    pub const MOST: usize = 300;
+}
+
+// One event more.
 pub fn emit(list: &mut [u16], n: usize, kind: u16, application: u16, slot: u16) -> usize
     requires { ⌜ 3 * (n + 1) ≤ length (now list) ⌝ }
     ensures { λ r. ⌜ r ≡ n + 1 ⌝ }
     ensures { λ _. ⌜ now (list .exit) ≡ put (now (list .entry)) (3 * n) (kind ∷ application ∷ slot ∷ []) ⌝ }
 {
-    let at = 3 * n;
+    let at = Event::NUMBERS * n;
     list[at] = kind;
     list[at + 1] = application;
     list[at + 2] = slot;
@@ -71,10 +80,10 @@ fn write(owner: &[u8], blocks: u16, k: usize, place: usize, data: &[u8], store: 
 fn starts_file(flags: u8) -> bool
     ensures { λ r. ⌜ r ≡ (eqb flags 1 || eqb flags 3) ⌝ }
 {
-    if flags == 1 {
+    if flags == Packet::FIRST {
         return true;
     }
-    flags == 3
+    flags == Packet::WHOLE
 }
 
 // A file opened in slot k: event 10, and for a whole file event 12.
@@ -105,7 +114,7 @@ fn open_at(
     let after = room::open_file(s, k, x);
     write(&after.owner, after.blocks, k, 0, data, store);
     let m = emit(list, n, 10, application.0, k as u16);
-    if h.flags == 3 {
+    if h.flags == Packet::WHOLE {
         let last = emit(list, m, 12, application.0, k as u16);
         return Told {
             station: after,
@@ -190,7 +199,7 @@ fn start(
 fn next_event(flags: u8) -> u16
     ensures { λ r. ⌜ r ≡ (if eqb flags 2 then 12 else 11) ⌝ }
 {
-    if flags == 2 { 12 } else { 11 }
+    if flags == Packet::LAST { 12 } else { 11 }
 }
 
 // Flags 0 or 2: the packet goes on with the incomplete file of the pair, or ends it, or there is none.

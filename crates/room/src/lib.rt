@@ -22,7 +22,7 @@ pub enum Found {
 }
 
 // The lowest free slot.
-pub fn free_slot(slots: [Slot; 32]) -> Found
+pub fn free_slot(slots: [Slot; Station::SLOTS]) -> Found
     ensures { λ r. ⌜ r ≡ freeFrom 0 slots ⌝ }
 {
     let mut k: usize = 0;
@@ -37,7 +37,7 @@ pub fn free_slot(slots: [Slot; 32]) -> Found
 }
 
 // The slot of the incomplete file of a channel and application.
-pub fn file_of(slots: [Slot; 32], channel: Channel, application: Application) -> Found
+pub fn file_of(slots: [Slot; Station::SLOTS], channel: Channel, application: Application) -> Found
     ensures { λ r. ⌜ r ≡ fileFrom 0 channel application slots ⌝ }
 {
     let mut k: usize = 0;
@@ -52,7 +52,7 @@ pub fn file_of(slots: [Slot; 32], channel: Channel, application: Application) ->
 }
 
 // The needs of the held files, all together. No sum of 32 needs can wrap.
-pub fn needs(slots: [Slot; 32]) -> u64
+pub fn needs(slots: [Slot; Station::SLOTS]) -> u64
     ensures { λ r. ⌜ r ≡ needsOf slots ⌝ }
 {
     let mut sum: u64 = 0;
@@ -70,7 +70,13 @@ pub fn needs(slots: [Slot; 32]) -> u64
 }
 
 // The first count blocks, rising, of the owner from among the first n go to the owner to.
-fn move_blocks(owner: &mut [u8; 4096], n: usize, from: u8, to: u8, count: usize)
+fn move_blocks(
+    owner: &mut [u8; Station::MOST_BLOCKS as usize],
+    n: usize,
+    from: u8,
+    to: u8,
+    count: usize,
+)
     requires { ⌜ (n ≤ 4096) × (length (now owner) ≡ 4096) ⌝ }
     ensures { λ _. ⌜ now (owner .exit) ≡ given to (take count (numbersOf from 0 (take n (now (owner .entry))))) (now (owner .entry)) ⌝ }
 {

@@ -3,10 +3,13 @@
 // Owns Station, Slot and Desk, passed by value. Promises: each function here decides a clause of the paper's list, true exactly if it
 // holds (specs/Sound.antt has the list, specs/Decision.antt the tests, proofs/Exactly.antt that they agree).
 use frame::Channel;
+use frame::CheckedCounter;
 use frame::Counter;
 use packet::Application;
+use packet::CheckedCount;
 use packet::Count;
 use packet::Look;
+use packet::Packet;
 ghost use mathlib.Core.Path.{_≡_};
 ghost use mathlib.Core.Bool.{true, _&&_};
 ghost use mathlib.Core.List.{map};
@@ -104,7 +107,8 @@ pub struct Desk {
 }
 
 impl Desk {
-    pub const SIZE: usize = 8198;
+    // Room for the largest packet; one that is whole is not held.
+    pub const SIZE: usize = Packet::LARGEST;
 
     pub const MOST: u16 = 8197;
 
@@ -114,10 +118,11 @@ impl Desk {
         if self.held > Desk::MOST {
             return false;
         }
-        let counter = self.counter;
-        if counter.0 >= Counter::MODULUS {
+        let last = self.counter;
+        let checked = Counter::checked(last.0);
+        let CheckedCounter::Good(counter) = checked else {
             return false;
-        }
+        };
         if self.seen {
             return true;
         }
@@ -132,17 +137,19 @@ impl Desk {
 pub struct Station {
     pub spacecraft: u8,
     pub channels: u8,
-    pub watched: [Channel; 8],
-    pub desks: [Desk; 8],
+    pub watched: [Channel; Channel::MOST],
+    pub desks: [Desk; Channel::MOST],
     pub blocks: u16,
-    pub owner: [u8; 4096],
-    pub slots: [Slot; 32],
+    pub owner: [u8; Station::MOST_BLOCKS as usize],
+    pub slots: [Slot; Station::SLOTS],
 }
 
 impl Station {
     pub const SLOTS: usize = 32;
+    // A block's owner is 0 for none, or a slot's number and 1.
+    pub const LAST_OWNER: u8 = 32;
 
-    pub const MOST_CHANNELS: u8 = 8;
+    pub const MOST_CHANNELS: u8 = Channel::MOST as u8;
 
     pub const MOST_BLOCKS: u16 = 4096;
 
@@ -161,11 +168,11 @@ impl Station {
         Station {
             spacecraft: 0,
             channels: 0,
-            watched: [channel; 8],
-            desks: [desk; 8],
+            watched: [channel; Channel::MOST],
+            desks: [desk; Channel::MOST],
             blocks: 0,
-            owner: [0; 4096],
-            slots: [slot; 32],
+            owner: [0; Station::MOST_BLOCKS as usize],
+            slots: [slot; Station::SLOTS],
         }
     }
 }
@@ -192,7 +199,7 @@ pub fn good_channels(channels: &[u8]) -> bool
     if channels.len() < 1 {
         return false;
     }
-    if channels.len() > 8 {
+    if channels.len() > Channel::MOST {
         return false;
     }
     let mut i: usize = 0;
@@ -210,12 +217,12 @@ pub fn good_channels(channels: &[u8]) -> bool
 }
 
 // The numbers of the channels.
-fn numbers(watched: [Channel; 8]) -> [u8; 8]
+fn numbers(watched: [Channel; Channel::MOST]) -> [u8; Channel::MOST]
     ensures { λ r. ⌜ r ≡ map number watched ⌝ }
 {
-    let mut out = [0u8; 8];
+    let mut out = [0u8; Channel::MOST];
     let mut i: usize = 0;
-    while i < 8 {
+    while i < Channel::MOST {
         let c = watched[i];
         out[i] = c.0;
         i += 1;
@@ -226,7 +233,7 @@ fn numbers(watched: [Channel; 8]) -> [u8; 8]
 // How many blocks each slot owns, and whether each block's owner is a slot or none.
 struct Owners {
     good: bool,
-    counts: [u16; 32],
+    counts: [u16; Station::SLOTS],
 }
 
 fn count_owners(owner: &[u8], n: usize) -> Owners
@@ -235,14 +242,14 @@ fn count_owners(owner: &[u8], n: usize) -> Owners
     ensures { λ r. ⌜ r .counts ≡ blockCounts (take n (now (owner .entry))) 0 32 ⌝ }
 {
     let mut good = true;
-    let mut counts = [0u16; 32];
+    let mut counts = [0u16; Station::SLOTS];
     let mut b: usize = 0;
     while b < n {
         let o = owner[b];
         if o == 0 {
             b += 1;
         } else {
-            if o > 32 {
+            if o > Station::LAST_OWNER {
                 good = false;
                 b += 1;
             } else {
@@ -303,18 +310,23 @@ fn held_sound(channels: &[u8], n: u16, x: Slot) -> bool
     if !transport::good_length(x.bits) {
         return false;
     }
-    if count.0 >= Count::MODULUS {
+    let checked = Count::checked(count.0);
+    let CheckedCount::Good(_) = checked else {
         return false;
-    }
+    };
     n as u64 == need
 }
 
 // Each slot, with the number of its blocks.
-fn slots_sound(channels: &[u8], counts: [u16; 32], slots: [Slot; 32]) -> bool
+fn slots_sound(
+    channels: &[u8],
+    counts: [u16; Station::SLOTS],
+    slots: [Slot; Station::SLOTS],
+) -> bool
     ensures { λ r. ⌜ r ≡ slotsSound (now (channels .entry)) counts slots ⌝ }
 {
     let mut k: usize = 0;
-    while k < 32 {
+    while k < Station::SLOTS {
         let x = slots[k];
         if !slot_sound(channels, counts[k], x) {
             return false;
@@ -325,12 +337,12 @@ fn slots_sound(channels: &[u8], counts: [u16; 32], slots: [Slot; 32]) -> bool
 }
 
 // Whether an incomplete file of the same pair is in a slot from number from on.
-fn twin_in(slots: [Slot; 32], from: usize, x: Slot) -> bool
+fn twin_in(slots: [Slot; Station::SLOTS], from: usize, x: Slot) -> bool
     requires { ⌜ from ≤ 32 ⌝ }
     ensures { λ r. ⌜ r ≡ twinIn x (drop from slots) ⌝ }
 {
     let mut k = from;
-    while k < 32 {
+    while k < Station::SLOTS {
         let y = slots[k];
         let channel = x.channel;
         let application = x.application;
@@ -343,11 +355,11 @@ fn twin_in(slots: [Slot; 32], from: usize, x: Slot) -> bool
 }
 
 // No two incomplete files of one pair.
-fn no_twins(slots: [Slot; 32]) -> bool
+fn no_twins(slots: [Slot; Station::SLOTS]) -> bool
     ensures { λ r. ⌜ r ≡ noTwins slots ⌝ }
 {
     let mut k: usize = 0;
-    while k < 32 {
+    while k < Station::SLOTS {
         let x = slots[k];
         if x.is_incomplete() {
             if twin_in(slots, k + 1, x) {
@@ -361,7 +373,7 @@ fn no_twins(slots: [Slot; 32]) -> bool
     true
 }
 
-fn desks_hold(desks: [Desk; 8], n: u8) -> bool
+fn desks_hold(desks: [Desk; Channel::MOST], n: u8) -> bool
     requires { ⌜ n ≤ 8 ⌝ }
     ensures { λ r. ⌜ r ≡ each deskHolds (take n desks) ⌝ }
 {
@@ -378,7 +390,7 @@ fn desks_hold(desks: [Desk; 8], n: u8) -> bool
 }
 
 // Set-up, with the names of the channels watched among eight.
-fn set_up_sound(channels: u8, names: [u8; 8], blocks: u16) -> bool
+fn set_up_sound(channels: u8, names: [u8; Channel::MOST], blocks: u16) -> bool
     ensures { λ r. ⌜ r ≡ setUpSound channels (take channels names) blocks ⌝ }
 {
     if channels > Station::MOST_CHANNELS {
@@ -429,7 +441,7 @@ fn octets_held(desk: &[u8], held: u16) -> bool
     if !octets::all_zero(desk, h, desk.len()) {
         return false;
     }
-    if h < 6 {
+    if h < Packet::HEADER {
         return true;
     }
     let l = packet::look_at(desk);
@@ -440,7 +452,7 @@ fn octets_held(desk: &[u8], held: u16) -> bool
 }
 
 // What the octets of the first n desks say, where the state alone is sound: one pass over each desk.
-pub fn are_desks_sound(positions: [Desk; 8], n: u8, desks: &[u8]) -> bool
+pub fn are_desks_sound(positions: [Desk; Channel::MOST], n: u8, desks: &[u8]) -> bool
     requires { ⌜ (n ≤ 8) × (length (now desks) ≡ 8198 * n) ⌝ }
     requires { ⌜ each deskHolds (take n positions) ≡ true ⌝ }
     ensures { λ r. ⌜ r ≡ desksHeld 0 (take n positions) (now (desks .entry)) ⌝ }

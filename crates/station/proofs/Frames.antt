@@ -3,12 +3,11 @@
 use mathlib.Core.Path.{_≡_, refl, sym, ap, _∙_}
 use mathlib.Core.Bool.{true, false, not, _&&_}
 use mathlib.Core.List.{List}
-use Prim.Native.Nat.{ℕ, _+_, _*_, _≤_, _<_}
+use Prim.Native.Nat.{ℕ, _+_, _*_, _≤_}
 use native.Mathlib.Omega.{arith}
 use borrow.Author.Tests.{eqb-true, leb-true, not-false}
 use lib.Dec.{leb, eqb}
-use lib.ListN.{length, take, List·getD-map}
-use lib.Seq.{getD-take, length-take-le}
+use lib.ListN.{length, take}
 use Rattle.octets.specs.Each.{each}
 use Rattle.octets.specs.Number.{part}
 use Rattle.octets.proofs.Lists.{if-cases}
@@ -18,23 +17,23 @@ use Rattle.frame.specs.declared.Examined.{Examined}
 use Rattle.frame.specs.declared.Examined.the-variants.{Refused, Good}
 use Rattle.frame.specs.Header.{derandomised, zoneOf}
 use Rattle.frame.specs.Refusals.{examined, plainAfter}
-use Rattle.frame.proofs.Answers.{good-framed, good-size, desk-good}
+use Rattle.frame.proofs.Answers.{good-framed, good-size}
 use Rattle.frame.proofs.Framing.{plain-framed}
 use Rattle.frame.proofs.Sizes.{length-derandomised, length-zone}
 use Rattle.state.specs.declared.Station.{Station}
-use Rattle.state.specs.Slots.{named, number}
+use Rattle.state.specs.Slots.{named}
 use Rattle.state.specs.Blocks.{table}
 use Rattle.state.specs.Sound.{Sized, DesksSound}
 use Rattle.state.specs.Decision.{setUpSound, isOwner, slotsSound, blockCounts, noTwins, deskHolds, desksHeld, isSound, areDesksSound}
 use Rattle.state.proofs.Exactly.{sound-yes, desks-yes}
-use Rattle.judge.specs.Contract.{Watched}
 use Rattle.zone.specs.declared.Done.{Done}
 use Rattle.zone.specs.Walk.{walked}
 use Rattle.zone.specs.Contract.{Lent, Tells}
 use Rattle.zone.proofs.Walks.{walked-few, desk-unfinished}
-use Rattle.station.specs.SetUp.{desksFit, channelOf}
+use Rattle.station.specs.SetUp.{desksFit}
 use Rattle.station.specs.Files.{storeFits}
 use Rattle.station.specs.Frame.{FrameOutcome, frameGives, lentRight, channelAt, examinedFrame, framed}
+use Rattle.station.proofs.Sorted.{desk-low, desk-watched}
 
 module _ (s : Station) where
   -- what the test of the desks asks
@@ -97,32 +96,13 @@ module _ (s : Station) (desks store list : List ℕ) where
             unfolding zoneOf
             zone-here before p = ap (part 8 884) (p ∙ plain-framed f before (good-framed _ _ f a accepted))
 
-            pub desk-watched : Sized s → a .desk < s .channels
-            desk-watched z =
-                omega (
-                  arith,
-                  desk-good _ _ f a accepted,
-                  length-take-le (s .channels) (s .watched) (omega (arith, channels-few s z e, z .watched)),
-                )
-
-            -- the channel of the frame's desk is the one that is watched there
-            watched-here : a .desk < s .channels → Watched s (channelAt s (a .desk))
-            watched-here low =
-                record {
-                  place = a .desk;
-                  low = low;
-                  here =
-                      List·getD-map number (take (s .channels) (s .watched)) (a .desk) (channelOf 0)
-                      ∙ ap number (getD-take (s .channels) (s .watched) (a .desk) (channelOf 0) low);
-                }
-
             module _ (z : Sized s) (before : List ℕ) {plain : List ℕ} (p : plain ≡ plainAfter f before) where
               lent-on : Lent (channelAt s (a .desk)) s a (part 8 884 plain) desks store list
               lent-on =
                   record {
                     sound = sound-yes z e;
-                    watched = watched-here (desk-watched z);
-                    desk = desk-watched z;
+                    watched = desk-watched s f a accepted;
+                    desk = desk-low s f a accepted;
                     frame =
                         ap length (zone-here before p)
                         ∙ length-zone (derandomised f) (length-derandomised f (good-size _ _ f a accepted));
@@ -148,9 +128,9 @@ module _ (s : Station) (desks store list : List ℕ) where
                   let k : length (w .events) ≡ 0 + length (w .events) = omega arith in
                   rw (t .station, t .events, t .desked, t .stored, t .listed, l, e, d, ← g, h, ← zone-here before p, ← k)
 
--- "no frame produces more than 300"
+-- "no frame produces more than 300": 151 is the greatest number
 abbrev Few : FrameOutcome → Type 0
-Few o = o .events ≤ 300
+Few o = o .events ≤ 151
 
 module _ (s : Station) (z : Sized s) (desks store list f : List ℕ) where
   module _ (l : lentRight s desks store list ≡ true) (e : isSound s ≡ true) (d : areDesksSound s desks ≡ true) where
@@ -159,13 +139,13 @@ module _ (s : Station) (z : Sized s) (desks store list f : List ℕ) where
     examined-few (Refused n) g = omega arith
     examined-few (Good a) g =
         let size = length-zone (derandomised f) (length-derandomised f (good-size _ _ f a (sym g))) in
-        let low = desk-watched s desks store list f l e d g refl z in
+        let low = desk-low s f a (sym g) in
         let lent = lent-desks s desks store list l in
         let sound = sound-yes z e in
         let held = desk-unfinished sound desks lent (a .desk) low (desks-yes desks z sound lent d) in
-        omega (arith, walked-few (channelAt s (a .desk)) s desks store a (zoneOf (derandomised f)) size held)
+        omega (arith, walked-few (channelAt s (a .desk)) s z desks store a (zoneOf (derandomised f)) size held)
 
-  framed-few : framed s desks store list f .events ≤ 300
+  pub framed-few : framed s desks store list f .events ≤ 151
   unfolding framed
   framed-few =
       if-cases Few (not (lentRight s desks store list)) (λ _. omega arith)

@@ -2,7 +2,7 @@
 use mathlib.Core.Path.{_≡_, refl, sym, ap, _∙_}
 use mathlib.Core.Bool.{true, false, _&&_, true≢false}
 use mathlib.Core.List.{List, map, map-map, map-id}
-use Prim.Native.Nat.{ℕ, _*_, _/_, _%_, _≤_}
+use Prim.Native.Nat.{ℕ, _*_, _/_, _%_, _≤_, _<_}
 use native.Mathlib.Omega.{arith}
 use borrow.Author.Tests.{leb-true, eqb-true}
 use lib.Dec.{leb, eqb}
@@ -22,6 +22,10 @@ use Rattle.station.specs.SetUp.{wholeBlocks, channelOf, freshStation}
 -- "1 to 8 distinct channels"
 pub few-channels : (channels : List ℕ) → goodChannels channels ≡ true → length channels ≤ 8
 few-channels channels good = told-true (channels-exactly channels) good .0 .1
+
+-- "0 to 62"
+pub low-channels : (channels : List ℕ) → goodChannels channels ≡ true → (i : ℕ) → i < length channels → getD channels i 0 ≤ 62
+low-channels channels good = told-true (channels-exactly channels) good .1 .0
 
 -- "whole blocks, 1 to 4,096"
 pub record Whole (store : List ℕ) (n : ℕ) : Type 0 where

@@ -3,8 +3,10 @@
 // A state goes in by value and comes back by value; desks, store, event list and buffers are lent. No call asks anything of what comes in.
 // Each contract is one equation between everything that comes out and a definition in specs/ of what came in.
 use frame::Channel;
+use frame::CheckedChannel;
 use frame::Examined;
 use frame::Frame;
+use judge::Event;
 use state::Desk;
 use state::Station;
 use transport::Transport;
@@ -15,14 +17,14 @@ ghost use Prim.Native.Nat.{_-_, _≤_, _<_};
 ghost use lib.Dec.{leb};
 ghost use lib.ListN.{length, replicate};
 ghost use Rattle.state.specs.Slots.{allZeroState, slotAt, complete};
-ghost use Rattle.state.specs.Decision.{isSound};
+ghost use Rattle.state.specs.Decision.{goodChannels, isSound};
 ghost use Rattle.room.specs.Move.{letGo};
 ghost use Rattle.station.specs.SetUp.{setUpGives, desksFit, wholeBlocks, channelOf, freshStation, setUp};
 ghost use Rattle.station.specs.Files.{answered, asked, released, dropped, storeFits, readGives, readAs, readOut};
 ghost use Rattle.station.specs.Frame.{frameGives, framed};
 
-// The least numbers of an event list: three for each of 300 events.
-const LEAST_LIST: usize = 900;
+// The least numbers of an event list.
+const LEAST_LIST: usize = Event::NUMBERS * Event::MOST;
 
 // A number of the paper, and the state.
 pub struct Answered {
@@ -39,16 +41,19 @@ fn say(answer: u8, station: Station) -> Answered
     }
 }
 
-// The channels watched, in the order named.
-fn watch(channels: &[u8]) -> [Channel; 8]
-    requires { ⌜ length (now channels) ≤ 8 ⌝ }
+// The channels watched, in the order named. None of them is bad: that was seen to before.
+fn watch(channels: &[u8]) -> [Channel; Channel::MOST]
+    requires { ⌜ goodChannels (now channels) ≡ true ⌝ }
     ensures { λ r. ⌜ r ≡ map channelOf (now (channels .entry)) ++ replicate (8 - length (now (channels .entry))) (channelOf 0) ⌝ }
 {
     let none = Channel(0);
-    let mut watched = [none; 8];
+    let mut watched = [none; Channel::MOST];
     let mut i: usize = 0;
     while i < channels.len() {
-        let channel = Channel(channels[i]);
+        let checked = Channel::checked(channels[i]);
+        let CheckedChannel::Good(channel) = checked else {
+            return watched;
+        };
         watched[i] = channel;
         i += 1;
     }
@@ -56,7 +61,7 @@ fn watch(channels: &[u8]) -> [Channel; 8]
 }
 
 fn fresh_station(spacecraft: u8, channels: &[u8], blocks: u16) -> Station
-    requires { ⌜ length (now channels) ≤ 8 ⌝ }
+    requires { ⌜ goodChannels (now channels) ≡ true ⌝ }
     ensures { λ r. ⌜ r ≡ freshStation spacecraft (now (channels .entry)) blocks ⌝ }
 {
     let watched = watch(channels);

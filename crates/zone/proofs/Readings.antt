@@ -1,18 +1,28 @@
 -- Where reading goes on in a frame, case by case, so that no proof has to open the definitions. Assumes nothing.
 use mathlib.Core.Path.{_≡_, refl, sym, ap, _∙_}
-use mathlib.Core.Bool.{Bool, true, false}
+use mathlib.Core.Bool.{Bool, true, false, true≢false}
+use mathlib.Core.Logic.{_⊎_, inl, inr, ⊎-elim}
 use mathlib.Core.List.{List, [], _∷_, _++_}
-use Prim.Native.Nat.{ℕ, _-_, _≤_, _<_}
+use Prim.Native.Nat.{ℕ, _+_, _-_, _%_, _≤_, _<_}
 use native.Mathlib.Omega.{arith}
+use borrow.Author.Tests.{ltb-true, ltb-false}
+use lib.Dec.{ltb}
 use lib.ListN.{length, drop, length-drop, drop-of-length-le}
+use Rattle.octets.specs.Choice.{Decides}
+use Rattle.octets.proofs.Lists.{if-cases}
+use Rattle.octets.proofs.Decide.{decides-same, decides-by, decides-self, decides-eqb, decides-then, decides-not}
 use Rattle.frame.specs.declared.Accepted.{Accepted}
+use Rattle.frame.specs.declared.Counter.{Counter}
 use Rattle.frame.specs.declared.Pointer.{Pointer}
 use Rattle.frame.specs.declared.Pointer.the-variants.{Offset, NoStart, Refused}
 use Rattle.frame.specs.Header.{pointerMeaning}
+use Rattle.frame.proofs.Pointers.{below-offset, no-start}
+use Rattle.frame.proofs.Counting.{follows-next, next-follows}
 use Rattle.packet.specs.declared.Packet.{Packet}
 use Rattle.packet.specs.declared.Look.{Look}
 use Rattle.packet.specs.declared.Look.the-variants.{Short, Bad, Good}
 use Rattle.packet.specs.Header.{lookOf, sizeOf}
+use Rattle.state.specs.declared.Desk.{Desk}
 use Rattle.state.specs.declared.Station.{Station}
 use Rattle.state.specs.Slots.{deskAt}
 use Rattle.judge.specs.Event.{Event, bare}
@@ -32,6 +42,28 @@ unfolding fromPointer
 from-few (Offset p) zone = omega (arith, length-drop p zone)
 from-few NoStart zone = omega arith
 from-few Refused zone = omega arith
+
+-- and a zone has nothing behind place 2047
+pub from-place : (p : ℕ) (zone : List ℕ) → length zone ≡ 884 → (p < 884) ⊎ (p ≡ 2047) → fromPointer (pointerMeaning p) zone ≡ drop p zone
+unfolding fromPointer
+from-place p zone l (inl h) = ap (λ (q : Pointer). fromPointer q zone) (below-offset p h)
+from-place p zone l (inr e) =
+    ap (λ (q : Pointer). fromPointer q zone) (no-start p e) ∙ sym (drop-of-length-le zone {i = p} (omega arith))
+
+-- "the pointer must be r if r is below 884, and 2047 otherwise", in words
+abbrev pub Agrees : ℕ → ℕ → Type 0
+Agrees r p = ((r < 884) × (p ≡ r)) ⊎ ((884 ≤ r) × (p ≡ 2047))
+
+pub agrees-exactly : (r p : ℕ) → Decides (Agrees r p) (agrees r p)
+unfolding agrees
+agrees-exactly r p =
+    if-cases (λ (b : Bool). Decides (Agrees r p) b) (ltb r 884)
+    (λ e.
+    let l = ltb-true r 884 e in
+    decides-same (λ q. inl (l, q)) (⊎-elim (λ a. a .1) (λ a. omega (arith, a .0))) (decides-eqb p r))
+    (λ e.
+    let l = ltb-false r 884 e in
+    decides-same (λ q. inr (l, q)) (⊎-elim (λ a. omega (arith, a .0)) (λ a. a .1)) (decides-eqb p 2047))
 
 -- reading at the pointer, after these events
 abbrev pub atPointer : List Event → List ℕ → ℕ → Reading
@@ -90,6 +122,16 @@ reads-held held zone p some (Good h) e = by (agrees (sizeOf h - length held) p) 
 pub reads-as : (held zone : List ℕ) (p : ℕ) → Reads held zone p (reading held zone p)
 reads-as [] zone p = rw (reading-none zone p) (afresh refl)
 reads-as (x ∷ held) zone p = reads-held (x ∷ held) zone p (omega arith) (lookOf (x ∷ held ++ zone)) refl
+
+-- "if a frame was seen before and the counter is not the last plus 1 modulo 2^24"
+pub gap-exactly : (d : Desk) (c : Counter) → Decides ((d .seen ≡ true) × (c .0 ≡ (d .counter .0 + 1) % 0x1000000 → ⊥)) (gap d c)
+unfolding gap
+gap-exactly d c =
+    decides-then (decides-self (d .seen))
+    (λ s.
+    decides-not
+    (decides-by _ (λ e. ap (λ (x : Counter). x .0) (follows-next (d .counter) c e))
+    (λ e q. true≢false (sym (next-follows (d .counter) c (λ i. record { 0 = q i })) ∙ e))))
 
 -- "event 1, and the held octets are dropped"
 module _ (s : Station) (desks zone : List ℕ) (a : Accepted) where

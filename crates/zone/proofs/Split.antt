@@ -8,7 +8,7 @@ use native.Mathlib.Omega.{arith}
 use borrow.Author.Tests.{lt-ltb, le-ltb, ltb-true, ltb-false}
 use lib.Dec.{ltb}
 use lib.ListN.{length, take, drop, getD, replicate, length-append, length-drop, take-append-drop}
-use lib.Seq.{length-take-le, take-take, take-append-add, drop-append-add, getD-append-add}
+use lib.Seq.{length-take-le, take-take, take-append-add, drop-append-add, take-append-seam, drop-append-seam, getD-append-add}
 use Rattle.octets.proofs.Zero.{blank-at, allZero-replicate}
 use Rattle.packet.specs.declared.Packet.{Packet}
 use Rattle.packet.specs.declared.Look.{Look}
@@ -17,7 +17,8 @@ use Rattle.packet.specs.Header.{packetOf, sizeOf, bad, lookOf}
 use Rattle.packet.proofs.Looks.{look-good, look-tells, look-same, look-append}
 use Rattle.state.specs.Sound.{OctetsHeld}
 use Rattle.judge.specs.Contract.{Whole}
-use Rattle.zone.specs.Zone.{Split, unfinished, broken, behind, splitBy, split}
+use Rattle.zone.specs.Zone.{Split, unfinished, broken, behind, splitBy, split, Wholes, Unfinished}
+use Rattle.zone.specs.Zone.Unfinished.{header, packet}
 
 -- every case, with what is known in it
 pub data Splits : List ℕ → Split → Type 0 where
@@ -29,9 +30,9 @@ pub data Splits : List ℕ → Split → Type 0 where
 
 -- by so many packets at most
 module _ (xs : List ℕ) where
-  look-none : length xs ≤ 0 → lookOf xs ≡ Short
+  look-few : length xs < 6 → lookOf xs ≡ Short
   unfolding lookOf
-  look-none l = rw (lt-ltb (length xs) 6 (omega arith))
+  look-few l = rw (lt-ltb (length xs) 6 l)
 
   by-few : (n : ℕ) → lookOf xs ≡ Short → splitBy n xs ≡ unfinished xs
   unfolding splitBy
@@ -73,7 +74,7 @@ splits-next n xs rest = by (lookOf xs) refl
 
 splits-by : (n : ℕ) (xs : List ℕ) → length xs ≤ n → Splits xs (splitBy n xs)
 splits-by zero xs m =
-    let e = look-none xs m in
+    let e = look-few xs (omega arith) in
     rw (by-few xs 0 e) (few e)
 splits-by (suc n) xs m =
     splits-next n xs (λ h l seven. splits-by n (drop (sizeOf h) xs) (omega (arith, length-drop (sizeOf h) xs)))
@@ -125,16 +126,6 @@ packet-whole xs {h} e l =
     let is : h ≡ packetOf p = look-good p h same .is in
     record { good = same ∙ ap Good is; all = n ∙ ap sizeOf is }
 
--- each of some packets is whole
-abbrev pub Wholes : List (List ℕ) → Type 0
-Wholes [] = Unit {0}
-Wholes (p ∷ ps) = Whole p × Wholes ps
-
--- what is left at a zone's end: not yet a header, or a good one whose packet is longer
-pub data Unfinished (xs : List ℕ) : Type 0 where
-  header : length xs < 6 → Unfinished xs
-  packet : {h : Packet} → lookOf xs ≡ Good h → length xs < sizeOf h → Unfinished xs
-
 splits-wholes : {xs : List ℕ} {sp : Split} → Splits xs sp → Wholes (sp .packets)
 splits-wholes (few e) = tt
 splits-wholes (part e l) = tt
@@ -175,6 +166,27 @@ module _ (xs : List ℕ) where
 
   pub split-cuts : Cuts xs (split xs)
   split-cuts = splits-cuts (splits-as xs)
+
+-- what is unfinished gives no packet
+pub split-unfinished : {xs : List ℕ} → Unfinished xs → split xs ≡ unfinished xs
+split-unfinished {xs} (header l) = split-short xs (look-few xs l)
+split-unfinished {xs} (packet e l) = split-part xs e l
+
+-- a whole packet in front is cut off
+cut-first : (p ys : List ℕ) → Whole p → split (p ++ ys) ≡ behind p (split ys)
+cut-first p ys w =
+    let g = look-good p (packetOf p) (w .good) in
+    let e : lookOf (p ++ ys) ≡ Good (packetOf p) = look-append p ys (g .six) ∙ w .good in
+    split-whole (p ++ ys) e (omega (arith, w .all, length-append p ys))
+    ∙ rw (← w .all, take-append-seam p ys, drop-append-seam p ys)
+
+-- and so are all: there is one way to cut octets into whole packets and what gives none
+pub cut-all : (ps : List (List ℕ)) (rest : List ℕ) → Wholes ps
+    → split (flatten ps ++ rest) ≡ record { packets = ps ++ split rest .packets; bad = split rest .bad; left = split rest .left }
+unfolding flatten
+cut-all [] rest w = refl
+cut-all (p ∷ ps) rest w =
+    ap split (append-assoc p (flatten ps) rest) ∙ cut-first p (flatten ps ++ rest) (w .0) ∙ ap (behind p) (cut-all ps rest (w .1))
 
 -- "each desk holds 0 to 8,197 octets"
 pub unfinished-few : {xs : List ℕ} → Unfinished xs → length xs ≤ 8197

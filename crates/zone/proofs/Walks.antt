@@ -8,7 +8,7 @@ use Prim.Native.Nat.{ℕ, _+_, _-_, _*_, _≤_, _<_}
 use native.Mathlib.Decide.{ℕ-discrete, decLt}
 use native.Mathlib.Omega.{arith}
 use lib.ListN.{length, take, drop, getD, replicate, length-append, length-drop, length-set, length-replicate}
-use lib.Seq.{take-take, getD-set-same, getD-set-other}
+use lib.Seq.{take-take, take-append-seam, getD-set-same, getD-set-other}
 use Rattle.octets.specs.Number.{part}
 use Rattle.octets.specs.Buffer.{put}
 use Rattle.octets.proofs.Lists.{whole-part}
@@ -29,12 +29,13 @@ use Rattle.judge.specs.Judge.{Judged, gives, after, judged}
 use Rattle.judge.specs.Contract.{Watched}
 use Rattle.judge.proofs.Keeps.{Stays, stays-all, stays-then, stays-sized, stays-watched, stays-desks, judged-stays, judged-store, judged-sound}
 use Rattle.judge.proofs.Few.{three, few}
+use Rattle.judge.proofs.Most.{going, few-going, most, most-carried}
 use Rattle.judge.proofs.Flat.{flat-behind}
-use Rattle.zone.specs.Zone.{Split, unfinished, behind, split, Reading, fromPointer}
+use Rattle.zone.specs.Zone.{Split, unfinished, behind, split, Reading, fromPointer, Wholes, Unfinished}
 use Rattle.zone.specs.Walk.{judgedAll, gap, heldAt, readingOf, withHeld, withDesk, Walked, badEvents, walked, walkedBy, walkedFrom}
 use Rattle.zone.specs.declared.Done.{Done}
 use Rattle.zone.specs.Contract.{Lent, Tells}
-use Rattle.zone.proofs.Split.{split-short, split-bad, split-part, split-whole, Wholes, Cuts, Unfinished, split-wholes, split-left, split-cuts, unfinished-few, unfinished-held, held-unfinished, carried-lacks, carried-whole, carried-part}
+use Rattle.zone.proofs.Split.{split-short, split-bad, split-part, split-whole, Cuts, split-wholes, split-left, split-cuts, unfinished-few, unfinished-held, held-unfinished, carried-lacks, carried-whole, carried-part}
 use Rattle.zone.proofs.Split.Cuts.{at-end, at-bad}
 use Rattle.zone.proofs.Readings.{from-few, reading-gap, reading-seamless, Reads, reads-as}
 use Rattle.zone.proofs.Readings.Reads.{afresh, too-few, bad-header, goes-on, points-off}
@@ -157,6 +158,11 @@ module _ (desks : List ℕ) (i : ℕ) (left : List ℕ) (fits : length left ≤ 
       let es = left ++ replicate (8198 - length left) 0 in
       ap (λ (n : ℕ). part (8198 * i) n (withHeld desks i left)) (sym filled)
       ∙ part-put-in es desks (8198 * i) (omega (arith, filled))
+
+  pub held-now : 8198 * i + 8198 ≤ length desks → part (8198 * i) (length left) (withHeld desks i left) ≡ left
+  held-now l =
+      sym (take-take (length left) 8198 (drop (8198 * i) (withHeld desks i left)) fits) ∙ ap (take (length left)) (held-here l)
+      ∙ take-append-seam left (replicate (8198 - length left) 0)
 
   pub held-other : (j : ℕ) → (j ≡ i → ⊥) → deskOctets j (withHeld desks i left) ≡ deskOctets j desks
   held-other j f =
@@ -284,8 +290,7 @@ module _ (c : Channel) (s : Station) (desks store : List ℕ) (a : Accepted) whe
     pub from-longer : length zone < r → walkedFrom c s desks store a es (held ++ zone) ≡ heldOn s desks store a es (held ++ zone)
     from-longer l = from-left es (held ++ zone) (carried-part held zone e r lacked l)
 
--- "It must have room for at least 300 events, and no frame produces more than 300": three octets are read for each event, the carried
--- packet's apart, which are three at most
+-- "It must have room for at least 300 events": three octets are read for each event, the carried packet's apart, which are three at most
 spent : (c : Channel) (s : Station) (store xs : List ℕ) {sp : Split} → Wholes (sp .packets) → Cuts xs sp
     → 3 * (length (judgedAll c s store (sp .packets) .events) + length (badEvents (sp .bad))) ≤ length xs
 spent c s store xs {sp} w (at-end b e) =
@@ -312,20 +317,58 @@ from-spent c s desks store a es xs =
       length-append es fs,
     )
 
+-- the greatest number of events: packets in one zone, then a whole frame
+all-most : (c : Channel) (s : Station) (store : List ℕ) (ps : List (List ℕ)) → Wholes ps → length (flatten ps) ≤ 884
+    → 7 * length (judgedAll c s store ps .events) ≤ length (flatten ps) + 5 * going (s .slots)
+unfolding judgedAll flatten
+all-most c s store [] w l = omega arith
+all-most c s store (p ∷ ps) w l =
+    let j = judged c s store p in
+    let both = length-append p (flatten ps) in
+    omega (
+      arith,
+      most c s store p (w .0) (omega arith),
+      all-most c (j .station) (j .store) ps (w .1) (omega arith),
+      length-append (j .events) (judgedAll c (j .station) (j .store) ps .events),
+    )
+
+-- a bad header has six octets, and one event
+cuts-most : (c : Channel) (s : Station) (store xs : List ℕ) {sp : Split} → length xs ≤ 884 → Wholes (sp .packets) → Cuts xs sp
+    → 7 * (length (judgedAll c s store (sp .packets) .events) + length (badEvents (sp .bad))) ≤ length xs + 1 + 5 * going (s .slots)
+cuts-most c s store xs {sp} l w (at-end b e) =
+    let all = sym (ap length e) ∙ length-append (flatten (sp .packets)) (sp .left) in
+    rw b (omega (arith, all-most c s store (sp .packets) w (omega arith)))
+cuts-most c s store xs {sp} l w (at-bad b none rest q e) =
+    let all = sym (ap length e) ∙ length-append (flatten (sp .packets)) rest in
+    rw b (omega (arith, all-most c s store (sp .packets) w (omega arith), look-tells rest q .0))
+
+from-most : (c : Channel) (s : Station) (desks store : List ℕ) (a : Accepted) (es : List Event) (xs : List ℕ) → length xs ≤ 884
+    → 7 * length (walkedFrom c s desks store a es xs .events) ≤ 7 * length es + length xs + 1 + 5 * going (s .slots)
+from-most c s desks store a es xs l =
+    let sp = split xs in
+    let fs = judgedAll c s store (sp .packets) .events in
+    omega (
+      arith,
+      cuts-most c s store xs l (split-wholes xs) (split-cuts xs),
+      length-append (es ++ fs) (badEvents (sp .bad)),
+      length-append es fs,
+    )
+
 abbrev count : Walked → ℕ
 count w = length (w .events)
 
-module _ (c : Channel) (s : Station) (desks store : List ℕ) (a : Accepted) where
+module _ (c : Channel) (s : Station) (z : Sized s) (desks store : List ℕ) (a : Accepted) where
   module _ (zone : List ℕ) (size : length zone ≡ 884) where
     -- read at the pointer after one event, or none
     pointer-few : (es : List Event) → length es ≤ 1
-        → length (walkedFrom c s desks store a es (fromPointer (pointerMeaning (a .pointer)) zone) .events) ≤ 297
+        → length (walkedFrom c s desks store a es (fromPointer (pointerMeaning (a .pointer)) zone) .events) ≤ 151
     pointer-few es l =
         let xs = fromPointer (pointerMeaning (a .pointer)) zone in
-        omega (arith, from-spent c s desks store a es xs, from-few (pointerMeaning (a .pointer)) zone)
+        let inside = from-few (pointerMeaning (a .pointer)) zone in
+        omega (arith, from-most c s desks store a es xs (omega arith), few-going z)
 
     carried-few : {h : Packet} (held : List ℕ) → Unfinished held → lookOf (held ++ zone) ≡ Good h
-        → length (walkedFrom c s desks store a [] (held ++ zone) .events) ≤ 297
+        → length (walkedFrom c s desks store a [] (held ++ zone) .events) ≤ 151
     carried-few {h} held u e =
         let lacks = carried-lacks held zone e u in
         let r : ℕ = sizeOf h - length held in
@@ -335,29 +378,30 @@ module _ (c : Channel) (s : Station) (desks store : List ℕ) (a : Accepted) whe
           | no l ↦
               let p = held ++ take r zone in
               let j = judged c s store p in
+              let left = length-drop r zone in
               omega (
                 arith,
                 ap count (from-carried c s desks store a [] held zone e r lacked (omega arith)),
-                from-spent c (j .station) desks (j .store) a (j .events) (drop r zone),
+                from-most c (j .station) desks (j .store) a (j .events) (drop r zone) (omega arith),
+                most-carried c s store p z,
                 three c s store p,
-                length-drop r zone,
               )
         ]
 
     reads-few : {r : Reading} (held : List ℕ) → Unfinished held → Reads held zone (a .pointer) r
-        → length (walkedFrom c s desks store a (r .events) (r .octets) .events) ≤ 297
+        → length (walkedFrom c s desks store a (r .events) (r .octets) .events) ≤ 151
     reads-few held u (afresh e) = pointer-few [] (omega arith)
     reads-few held u (too-few e) = absurd (omega (arith, look-tells (held ++ zone) e, length-append held zone))
     reads-few held u (bad-header e) = pointer-few (bare 3 ∷ []) (omega arith)
     reads-few held u (goes-on e f) = carried-few held u e
     reads-few held u (points-off e f) = pointer-few (bare 2 ∷ []) (omega arith)
 
-  -- no frame produces more than 297
-  pub walked-few : (zone : List ℕ) → length zone ≡ 884 → Unfinished (heldAt s desks (a .desk)) → length (walked c s desks store zone a .events) ≤ 297
+  -- "no frame produces more than 300": none produces more than 151
+  pub walked-few : (zone : List ℕ) → length zone ≡ 884 → Unfinished (heldAt s desks (a .desk)) → length (walked c s desks store zone a .events) ≤ 151
   walked-few zone size u = rw (walked-from c s desks store a zone) (by (gap (deskAt s (a .desk)) (a .counter)) refl)
     where
       by : (b : Bool) → gap (deskAt s (a .desk)) (a .counter) ≡ b
-          → length (walkedFrom c s desks store a (readingOf s desks zone a .events) (readingOf s desks zone a .octets) .events) ≤ 297
+          → length (walkedFrom c s desks store a (readingOf s desks zone a .events) (readingOf s desks zone a .octets) .events) ≤ 151
       by true e = rw (reading-gap s desks zone a e) (pointer-few zone size (bare 1 ∷ []) (omega arith))
       by false e =
           rw (reading-seamless s desks zone a e)
@@ -388,7 +432,7 @@ pub record Kept (s : Station) (desks store : List ℕ) (i : ℕ) (w : Walked) : 
   pub desked : length (w .desks) ≡ length desks
   pub stored : length (w .store) ≡ length store
   -- "no frame produces more than 300"
-  pub few : length (w .events) ≤ 297
+  pub few : length (w .events) ≤ 151
 
 -- THE law of a frame that is not refused
 pub walked-keeps : (c : Channel) (s : Station) (a : Accepted) (zone desks store list : List ℕ) → Sized s → Lent c s a zone desks store list
@@ -412,7 +456,7 @@ walked-keeps c s a zone desks store list z l h low =
       octets = walked-desks-sound c s desks store zone a z (l .sound) (l .desk) (l .desked) h;
       desked = walked-desks c s desks store zone a;
       stored = walked-store c s desks store zone a;
-      few = walked-few c s desks store a zone (l .frame) (desk-unfinished (l .sound) desks (l .desked) (a .desk) (l .desk) h);
+      few = walked-few c s z desks store a zone (l .frame) (desk-unfinished (l .sound) desks (l .desked) (a .desk) (l .desk) h);
     }
 
 -- the same behind other events

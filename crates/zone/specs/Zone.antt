@@ -1,10 +1,12 @@
 -- From a frame's zone to the packets in it ("Frames", 5 and 6). Assumes nothing.
+use mathlib.Core.Path.{_≡_}
 use mathlib.Core.Bool.{Bool, true, false}
 use mathlib.Core.List.{List, [], _∷_, _++_}
-use Prim.Native.Nat.{ℕ, zero, suc, _-_}
+use Prim.Native.Nat.{ℕ, zero, suc, _-_, _<_}
 use lib.Dec.{ltb, eqb}
 use lib.ListN.{length, take, drop}
 use Rattle.octets.specs.Choice.{if_then_else_}
+use Rattle.packet.specs.declared.Packet.{Packet}
 use Rattle.packet.specs.declared.Look.{Look}
 use Rattle.packet.specs.declared.Look.the-variants.{Short, Bad, Good}
 use Rattle.packet.specs.Header.{lookOf, sizeOf}
@@ -12,6 +14,7 @@ use Rattle.frame.specs.declared.Pointer.{Pointer}
 use Rattle.frame.specs.declared.Pointer.the-variants.{Offset, NoStart, Refused}
 use Rattle.frame.specs.Header.{pointerMeaning}
 use Rattle.judge.specs.Event.{Event, bare}
+use Rattle.judge.specs.Contract.{Whole}
 
 -- octets read from their first on: the whole packets, whether a bad header was met, and what is left unfinished
 pub record Split : Type 0 where
@@ -42,6 +45,16 @@ splitBy (suc n) xs =
 
 unfoldable pub split : List ℕ → Split
 split xs = splitBy (length xs) xs
+
+-- each of some packets is whole: a good header, and exactly its size
+abbrev pub Wholes : List (List ℕ) → Type 0
+Wholes [] = Unit {0}
+Wholes (p ∷ ps) = Whole p × Wholes ps
+
+-- what is left at a zone's end: not yet a header, or a good one whose packet is longer
+pub data Unfinished (xs : List ℕ) : Type 0 where
+  header : length xs < 6 → Unfinished xs
+  packet : {h : Packet} → lookOf xs ≡ Good h → length xs < sizeOf h → Unfinished xs
 
 -- where reading goes on in a frame: the event that comes first, if any, and the octets to be read
 pub record Reading : Type 0 where

@@ -28,7 +28,7 @@ abbrev right : tie.After-starts-file → tie.Else3
 right c = c .before .before
 
 read : (c : tie.Else2) → c .before .before .before .before .before .read .result ≡ packetOf (entry c .args .packet .now)
-read c = c .before .before .before .before .before .read .ensures
+read c = c .before .before .before .before .before .read .ensures .0
 
 checked : (c : tie.Else2) → 9 ≤ length (entry c .args .packet .now)
 checked c = read-checked (entry c .pre .1 .1) (read c) (omega arith)
@@ -44,7 +44,7 @@ read-requires : tie.Need-read-requires
 read-requires c κs = search needs
 
 returns : tie.Need-returns
-returns c = tells-as (judged-fill _ _ _ _ (c .before .before .before .read .ensures) (omega arith)) (tells-none _ _ _ _)
+returns c = tells-as (judged-fill _ _ _ _ (c .before .before .before .read .ensures .0) (omega arith)) (tells-none _ _ _ _)
 
 emit-requires : tie.Need-emit-requires
 emit-requires c κs = search needs
@@ -55,7 +55,7 @@ same-length c = search needs
 returns-2 : tie.Need-returns-2
 returns-2 c =
     let m = c .before .before in
-    let r = c .before .before .before .before .before .before .before .before .before .read .ensures in
+    let r = c .before .before .before .before .before .before .before .before .before .read .ensures .0 in
     let low = read-application (c .before .before .before .before .before .before .before .before .before .before .before .before .before .pre .1 .1) r in
     tells-as (judged-other _ _ _ _ r (omega arith) (omega arith)) (tells-one _ _ _ (m .emit .ensures .0) (m .emit .ensures .1))
 

@@ -1,4 +1,5 @@
--- `held_sound` meets its contract, by its tests in the paper's order and the contracts of `need`, `among` and `good_length`. Assumes nothing.
+-- `held_sound` meets its contract, by its tests in the paper's order and the contracts of `need`, `among`, `good_length` and `Count::checked`.
+-- Assumes nothing.
 use mathlib.Core.Path.{_≡_, sym}
 use mathlib.Core.Bool.{true, false}
 use mathlib.Core.List.{List}
@@ -8,6 +9,7 @@ use borrow.Author.Needs.{needs}
 use borrow.Author.Tests.{lt-leb, le-leb, lt-ltb, le-ltb}
 use lib.Dec.{eqb}
 use Rattle.octets.proofs.Tests.{denied, granted}
+use Rattle.packet.proofs.Made.{made-count, no-count}
 use Rattle.transport.specs.Length.{goodLength}
 use Rattle.state.specs.declared.Slot.{Slot}
 use Rattle.state.specs.Slots.{held, needOf}
@@ -37,9 +39,9 @@ module _ (channels : List ℕ) (n : ℕ) (x : Slot) (h : held x ≡ true) where
         no-length l = rw (h, le-leb _ _ few, watched, le-leb _ _ file, l)
 
         module _ (long : goodLength (x .bits) ≡ true) where
-          no-count : 16384 ≤ x .count .0 → slotSound channels n x ≡ false
+          uncounted : 16384 ≤ x .count .0 → slotSound channels n x ≡ false
           unfolding slotSound
-          no-count l = rw (h, le-leb _ _ few, watched, le-leb _ _ file, long, le-ltb _ _ l)
+          uncounted l = rw (h, le-leb _ _ few, watched, le-leb _ _ file, long, le-ltb _ _ l)
 
           counted : {m : ℕ} → m ≡ needOf x → x .count .0 < 16384 → slotSound channels n x ≡ eqb n m
           unfolding slotSound
@@ -69,11 +71,24 @@ good-length-requires c κs = search needs
 returns-4 : tie.Need-returns-4
 returns-4 c = sym (no-length _ _ _ (search needs) (omega arith) (search granted) (omega arith) (search denied))
 
+checked-requires : tie.Need-checked-requires
+checked-requires c κs = search needs
+
+enum-told : tie.Need-enum-told
+enum-told c = search needs
+
+enum-told-2 : tie.Need-enum-told-2
+enum-told-2 c = search needs
+
 returns-5 : tie.Need-returns-5
-returns-5 c = sym (no-count _ _ _ (search needs) (omega arith) (search granted) (omega arith) (search granted) (omega arith))
+returns-5 c =
+    let high = no-count _ (c .before .before .checked .ensures) (c .enum-told2 .given .1) in
+    sym (uncounted _ _ _ (search needs) (omega arith) (search granted) (omega arith) (search granted) high)
 
 returns-6 : tie.Need-returns-6
-returns-6 c = sym (counted _ _ _ (search needs) (omega arith) (search granted) (omega arith) (search granted) (omega arith) (omega arith))
+returns-6 c =
+    let low = made-count _ (c .before .before .checked .ensures) (c .enum-told .given .1) in
+    sym (counted _ _ _ (search needs) (omega arith) (search granted) (omega arith) (search granted) (omega arith) low)
 
 pub held-sound-spec : {M : Type 1} → statement M
 held-sound-spec =
@@ -87,5 +102,8 @@ held-sound-spec =
     returns-3
     good-length-requires
     returns-4
+    checked-requires
+    enum-told
+    enum-told-2
     returns-5
     returns-6)

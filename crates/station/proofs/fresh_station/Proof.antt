@@ -1,6 +1,8 @@
 -- `fresh_station` meets its contract, by those of `watch` and `zero`. Assumes nothing.
+use native.Mathlib.Omega.{arith}
 use borrow.Author.Needs.{needs}
 use Rattle.station.specs.SetUp.{freshStation}
+use Rattle.station.proofs.Fresh.{few-channels}
 use Rattle.station.proofs.fresh_station.Statement.{statement}
 use Rattle.station.proofs.fresh_station.Tie as tie
 
@@ -11,7 +13,10 @@ zero-requires : tie.Need-zero-requires
 zero-requires c κs = search needs
 
 cast-s : tie.Need-cast-s
-cast-s c = search needs
+cast-s c =
+    let start = c .before .before .before in
+    let few = few-channels (start .args .channels .now) (start .pre) in
+    omega arith
 
 returns : tie.Need-returns
 unfolding freshStation

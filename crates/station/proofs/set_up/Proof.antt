@@ -83,7 +83,7 @@ cast-fresh-station c =
     omega arith
 
 fresh-station-requires : tie.Need-fresh-station-requires
-fresh-station-requires c κs = few-channels (c .before .before .before .before .before .before .before .before .before .before .before .before .args .channels .now) (search granted)
+fresh-station-requires c κs = search granted
 
 say-requires : tie.Need-say-requires
 say-requires c κs = search needs

@@ -1,5 +1,5 @@
 -- `take_frame` meets its contract: each refusal in its turn, then the zone walked. Assumes nothing.
-use mathlib.Core.Path.{_≡_, refl}
+use mathlib.Core.Path.{_≡_, refl, sym, _∙_}
 use mathlib.Core.Bool.{true}
 use native.Mathlib.Omega.{arith}
 use borrow.Author.Needs.{needs}
@@ -9,7 +9,8 @@ use Rattle.octets.proofs.Tests.{denied, granted}
 use Rattle.state.specs.Sound.{Sized}
 use Rattle.state.specs.Decision.{desksHeld, isSound}
 use Rattle.station.specs.Frame.{lentRight}
-use Rattle.station.proofs.Frames.{lent-desks, desks-hold, channels-few, lent-wrong, unsound, desks-unsound, frame-refused, desk-watched, walk-lent, frame-taken}
+use Rattle.station.proofs.Sorted.{desk-low}
+use Rattle.station.proofs.Frames.{lent-desks, desks-hold, channels-few, lent-wrong, unsound, desks-unsound, frame-refused, walk-lent, frame-taken}
 use Rattle.station.proofs.take_frame.Statement.{statement}
 use Rattle.station.proofs.take_frame.Tie as tie
 
@@ -141,7 +142,7 @@ array-copy-out-channel c =
     let d = passed c in
     let i = begun d in
     let z = sized i in
-    let low = desk-watched (i .args .s) (i .args .desks .now) (i .args .store .now) (i .args .list .now) (i .args .octets .now) (lent (fits (steady d))) (sound (steady d)) (orderly d) (c .before .before .before .before .examine .ensures .0) (c .before .examined2 .given .1) z in
+    let low = desk-low (i .args .s) (i .args .octets .now) _ (sym (c .before .before .before .before .examine .ensures .0) ∙ c .before .examined2 .given .1) in
     omega (arith, low, channels-few _ z (sound (steady d)), z .watched)
 
 sub-walk-frame : tie.Need-sub-walk-frame
