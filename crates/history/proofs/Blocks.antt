@@ -24,8 +24,8 @@ use Rattle.judge.specs.Event.{Event, at, Among, flat}
 use Rattle.judge.specs.Judge.{Judged, judged}
 use Rattle.judge.specs.Contract.{Watched, Whole}
 use Rattle.judge.proofs.Exact.{abandoned-exactly}
-use Rattle.zone.specs.Zone.{split}
-use Rattle.zone.proofs.Split.{Wholes, split-wholes}
+use Rattle.zone.specs.Zone.{split, Wholes}
+use Rattle.zone.proofs.Split.{split-wholes}
 use Rattle.zone.specs.Walk.{deskAfter, readingOf, judgedAll, badEvents, walked}
 use Rattle.station.specs.Frame.{FrameOutcome, channelAt}
 use Rattle.history.specs.Run.{World, Call, answer, run, fresh, SoundWorld}

@@ -37,7 +37,7 @@ use Rattle.history.proofs.Pages.{files-carried}
 -- a thing that leaves the file as it was adds nothing to it
 none-added : (x : Slot) (t : Thing) (ps : List (List ℕ)) → Next x t x → addedBy x t ps ≡ ps
 none-added x t ps (none e f) = f ps
-none-added x t ps (one g e f) =
+none-added x t ps (one own g e f) =
     let more : x .accepted ≡ x .accepted + 1 = ap (λ (y : Slot). y .accepted) e in
     absurd (omega arith)
 

@@ -1,15 +1,14 @@
 -- A held file is what following the things since its opening gives. Assumes nothing.
 use mathlib.Core.Path.{_≡_, refl, sym, ap, subst, _∙_}
-use mathlib.Core.Bool.{Bool, true, false, true≢false}
-use mathlib.Core.Logic.{_⊎_, inl, inr, ⊎-elim}
-use mathlib.Core.List.{List, [], _∷_, List·Memᴰ, List·Memᴰ·not-nil, List·Memᴰ·cases-cons, List·Memᴰ·eq-of-singleton, Memᴰ·append-left, Memᴰ·append-right, Memᴰ·cast}
+use mathlib.Core.Bool.{true, false, true≢false}
+use mathlib.Core.Logic.{_⊎_, _↔_, inl, inr, ⊎-elim}
+use mathlib.Core.List.{List, [], _∷_, List·Memᴰ, List·Memᴰ·not-nil, List·Memᴰ·eq-of-singleton, Memᴰ·append-left, Memᴰ·append-right, Memᴰ·cast}
 use mathlib.Core.List.List·Memᴰ.{List·Memᴰ·head, List·Memᴰ·tail}
 use Prim.Native.Nat.{ℕ, _+_, _/_, _<_}
 use native.Mathlib.Omega.{arith}
 use borrow.Author.Tests.{eq-eqb, eqb-true}
 use lib.Dec.{eqb}
 use lib.ListN.{length}
-use Rattle.octets.specs.Choice.{if_then_else_}
 use Rattle.octets.proofs.Lists.{if-cases}
 use Rattle.frame.specs.declared.Channel.{Channel}
 use Rattle.packet.specs.declared.Application.{Application}
@@ -28,7 +27,7 @@ use Rattle.judge.specs.Event.{Event, at, Among}
 use Rattle.judge.specs.Judge.{Judged, dataOf, firstSlot, nextSlot, judged}
 use Rattle.judge.proofs.Parts.{nextKind}
 use Rattle.judge.proofs.Keeps.{file-going}
-use Rattle.judge.proofs.Steps.{about, eventsOf, Step, judged-slot}
+use Rattle.judge.proofs.Steps.{eventsOf, Step, judged-slot}
 use Rattle.judge.proofs.Steps.Step.{same, ended, begun, begun-over, gone-on}
 use Rattle.station.proofs.Fresh.{fresh-none}
 use Rattle.station.proofs.Calls.{setUp-outcome}
@@ -41,7 +40,7 @@ use Rattle.history.specs.Files.{Came, HeldExactly}
 use Rattle.history.specs.Store.{Keeps}
 use Rattle.history.proofs.Moments.{Settled, settled, AllRightly, did-append, did-settled, all-settled, rightly-rest, run-leaves, run-rightly}
 use Rattle.history.proofs.Sound.{fresh-sound}
-use Rattle.history.proofs.Turns.{LetGo, Turn, turn}
+use Rattle.history.proofs.Turns.{LetGo, in-among, Turn, turn}
 use Rattle.history.proofs.Turns.Turn.{stays, goes, leaves, opens}
 
 module _ (k : ℕ) (x : Slot) (t : Thing) (ts : List Thing) where
@@ -127,27 +126,14 @@ fares {s} {store} (t ∷ ts) h r k low e = by (turn h k low t) (fares ts (did-se
     by (opens q u st why o m n) rest = rw (follow-over k (slotAt s k) t ts (why e .0)) (let-go s store k t ts (why e .1))
 
 -- the slot of a file that event 10 tells of
-kept-if : {e x : Event} {es fs : List Event} (k : ℕ) (b : Bool) → about k x ≡ b → about k e ≡ true → (Among e es → Among e fs)
-    → Among e (x ∷ es) → Among e (if b then x ∷ fs else fs)
-kept-if k true f a g m = ⊎-elim (λ q. List·Memᴰ·head q) (λ n. List·Memᴰ·tail (g n)) (List·Memᴰ·cases-cons m)
-kept-if k false f a g m = ⊎-elim (λ q. absurd (true≢false (sym a ∙ ap (about k) q ∙ f))) g (List·Memᴰ·cases-cons m)
-
-among-kept : (k : ℕ) {e : Event} → about k e ≡ true → (es : List Event) → Among e es → Among e (eventsOf k es)
-unfolding eventsOf
-among-kept k a [] m = m
-among-kept k a (x ∷ es) m = kept-if k (about k x) refl a (among-kept k a es) m
-
 module _ {s : Station} {store : List ℕ} (h : Settled s store) (k : ℕ) (c : Channel) (p : List ℕ) where
   pub opened-slot : Among (at 10 (packetOf p .application .0) k) (judged c s store p .events)
       → {t : Transport} → begunOf (packetOf p .flags) (dataOf p) ≡ Right t
       → slotAt (judged c s store p .station) k ≡ firstSlot c (packetOf p) t
   opened-slot m {t} right = by (judged-slot c s store p (h .sized) (h .sound) (h .stored) k)
     where
-      n : Among (at 10 (packetOf p .application .0) k) (eventsOf k (judged c s store p .events))
-      n = among-kept k (eq-eqb k k refl) (judged c s store p .events) m
-
       told : {es : List Event} → eventsOf k (judged c s store p .events) ≡ es → Among (at 10 (packetOf p .application .0) k) es
-      told q = subst (Among (at 10 (packetOf p .application .0) k)) q n
+      told q = in-among k (eq-eqb k k refl) m q
 
       first : {t′ : Transport} → slotAt (judged c s store p .station) k ≡ firstSlot c (packetOf p) t′
           → begunOf (packetOf p .flags) (dataOf p) ≡ Right t′ → slotAt (judged c s store p .station) k ≡ firstSlot c (packetOf p) t
@@ -252,6 +238,17 @@ fresh-held x k =
     rw (setUp-outcome (x .spacecraft) (x .channels) (x .desks) (x .store) .done (x .good))
     (fresh-none (x .spacecraft) (x .channels) (length (x .store) / 8190) k)
 
+-- a slot holds what came about by any things, and nothing else, from a state that holds no file
+pub held-things : {s : Station} {store : List ℕ} (ts : List Thing) → Settled s store → AllRightly s store ts
+    → ((k : ℕ) → held (slotAt s k) ≡ false) → (k : ℕ) → k < 32 → (y : Slot) → held y ≡ true
+    → (slotAt (didAll s store ts .station) k ≡ y) ↔ Came s store ts k y
+held-things {s} {store} ts h r none k low y e = (
+  λ q.
+      subst (Came s store ts k) q
+      (⊎-elim (λ (f, g). absurd (true≢false (sym f ∙ none k))) (λ m. m) (origin ts h r k low (ap held q ∙ e))),
+  λ m. came-held s store ts h r k low y m,
+)
+
 module _ (x : Start) (cs : List Call) where
   here : Settled (fresh x .station) (fresh x .store)
   here = settled (fresh-sound x)
@@ -262,14 +259,11 @@ module _ (x : Start) (cs : List Call) where
   end : didAll (fresh x .station) (fresh x .store) (allThings (fresh x) cs) .station ≡ run (fresh x) cs .station
   end = run-leaves (fresh x) cs .station
 
+  pub held-exactly : HeldExactly x cs
+  held-exactly k low y e =
+      subst (λ (s : Station). (slotAt s k ≡ y) ↔ Came (fresh x .station) (fresh x .store) (allThings (fresh x) cs) k y) end
+      (held-things (allThings (fresh x) cs) here right (fresh-held x) k low y e)
+
   pub came : (k : ℕ) → k < 32 → held (slotAt (run (fresh x) cs .station) k) ≡ true
       → Came (fresh x .station) (fresh x .store) (allThings (fresh x) cs) k (slotAt (run (fresh x) cs .station) k)
-  came k low e =
-      ⊎-elim (λ (f, q). absurd (true≢false (sym f ∙ fresh-held x k))) (λ m. rw end at m)
-      (origin (allThings (fresh x) cs) here right k low (rw end e))
-
-  pub held-exactly : HeldExactly x cs
-  held-exactly k low y e = (
-    λ q. subst (Came (fresh x .station) (fresh x .store) (allThings (fresh x) cs) k) q (came k low (ap held q ∙ e)),
-    λ m. ap (λ (s : Station). slotAt s k) (sym end) ∙ came-held (fresh x .station) (fresh x .store) (allThings (fresh x) cs) here right k low y m,
-  )
+  came k low e = held-exactly k low (slotAt (run (fresh x) cs .station) k) e .0 refl

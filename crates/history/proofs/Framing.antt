@@ -1,26 +1,22 @@
 -- What becomes of a frame call: it is refused and nothing changes, or it is taken, and what is known then. Assumes nothing.
-use mathlib.Core.Path.{_≡_, refl, ap, _∙_}
+use mathlib.Core.Path.{_≡_, refl}
 use mathlib.Core.Bool.{Bool, true, false, _&&_}
 use mathlib.Core.List.{List}
-use Prim.Native.Nat.{ℕ, _≤_, _<_}
+use Prim.Native.Nat.{ℕ, _≤_}
 use native.Mathlib.Omega.{arith}
 use borrow.Author.Tests.{leb-true}
 use lib.Dec.{leb}
-use lib.ListN.{length, take, List·getD-map}
-use lib.Seq.{length-take-le, getD-take}
+use lib.ListN.{length, take}
 use Rattle.frame.specs.declared.Accepted.{Accepted}
 use Rattle.frame.specs.declared.Examined.{Examined}
 use Rattle.frame.specs.declared.Examined.the-variants.{Refused, Good}
 use Rattle.frame.specs.Header.{derandomised, zoneOf}
-use Rattle.frame.proofs.Answers.{refusal-number, desk-good}
+use Rattle.frame.proofs.Answers.{refusal-number}
 use Rattle.state.specs.declared.Station.{Station}
-use Rattle.state.specs.Slots.{number}
-use Rattle.state.specs.Sound.{Sized}
 use Rattle.state.specs.Decision.{isSound, areDesksSound}
 use Rattle.octets.proofs.Tests.{and-right}
-use Rattle.judge.specs.Contract.{Watched}
 use Rattle.zone.specs.Walk.{walked}
-use Rattle.station.specs.SetUp.{desksFit, channelOf}
+use Rattle.station.specs.SetUp.{desksFit}
 use Rattle.station.specs.Files.{storeFits}
 use Rattle.station.specs.Frame.{frameGives, lentRight, channelAt, taken, examinedFrame, framed}
 use Rattle.history.specs.Run.{World, frameIn}
@@ -73,26 +69,7 @@ framing w f list = lends (lentRight s (w .desks) (w .store) list) refl
     lends true e = sounds e (isSound s) (areDesksSound s (w .desks)) refl refl
     lends false e = refuses 1 (omega arith) (rw e)
 
--- the channel of a desk is watched
-pub channel-watched : (s : Station) (i : ℕ) → i < s .channels → Watched s (channelAt s i)
-channel-watched s i low =
-    record {
-      place = i;
-      low = low;
-      here = List·getD-map number (take (s .channels) (s .watched)) i (channelOf 0) ∙ ap number (getD-take (s .channels) (s .watched) i (channelOf 0) low);
-    }
-
-module _ {w : World} {f list : List ℕ} (t : Taken w f list) where
-  pub taken-desk : Sized (w .station) → w .station .channels ≤ 8 → t .frame .desk < w .station .channels
-  taken-desk z few =
-      let s = w .station in
-      omega (
-        arith,
-        desk-good (s .spacecraft) (take (s .channels) (s .watched)) f (t .frame) (t .good),
-        length-take-le (s .channels) (s .watched) (omega (arith, z .watched)),
-      )
-
-  pub taken-list : 900 ≤ length list
-  taken-list =
-      let s = w .station in
-      leb-true 900 (length list) (and-right (desksFit (s .channels) (w .desks) && storeFits (s .blocks) (w .store)) (leb 900 (length list)) (t .lent))
+pub taken-list : {w : World} {f list : List ℕ} → Taken w f list → 900 ≤ length list
+taken-list {w} {f} {list} t =
+    let s = w .station in
+    leb-true 900 (length list) (and-right (desksFit (s .channels) (w .desks) && storeFits (s .blocks) (w .store)) (leb 900 (length list)) (t .lent))

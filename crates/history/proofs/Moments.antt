@@ -26,13 +26,14 @@ use Rattle.station.specs.declared.Answered.{Answered}
 use Rattle.station.specs.Files.{answered, released, dropped}
 use Rattle.station.specs.Frame.{FrameOutcome, channelAt}
 use Rattle.station.proofs.Calls.{release-outcome, drop-outcome, release-zero, drop-zero}
+use Rattle.station.proofs.Sorted.{desk-watched}
 use Rattle.history.specs.Run as runs
 use Rattle.history.specs.Run.{World, Call, answer, run, SoundWorld}
 use Rattle.history.specs.Run.Call.{frame, read, release, drop}
 use Rattle.history.specs.Things.{Thing, did, didAll, examinedIn, splitIn, framedThings, things, allThings}
 use Rattle.history.specs.Things.Thing.{packet, left, gone}
 use Rattle.history.specs.Store.{Moment, worldAt, stationAt, storeAt}
-use Rattle.history.proofs.Framing.{Taken, Framing, framing, channel-watched}
+use Rattle.history.proofs.Framing.{Taken, Framing, framing}
 use Rattle.history.proofs.Framing.Framing.{refuses, takes}
 use Rattle.history.proofs.Refused.{every-answer}
 use Rattle.history.proofs.Sound.{taken-low, taken-counter, after-sound, run-sound, fresh-sound}
@@ -225,7 +226,7 @@ module _ {w : World} (h : SoundWorld w) where
       let s = w .station in
       let a = t .frame in
       rw (things-taken w t)
-      (rightly-frame (w .store) (splitIn w f a .packets) (a .desk) _ (channel-watched s (a .desk) (taken-low h t)) (taken-low h t)
+      (rightly-frame (w .store) (splitIn w f a .packets) (a .desk) _ (desk-watched s f a (t .good)) (taken-low h t)
       (record {
         few = unfinished-few (split-left (readingOf s (w .desks) (zoneOf (derandomised f)) a .octets));
         counter = taken-counter h t;

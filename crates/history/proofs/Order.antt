@@ -35,7 +35,7 @@ never-still e =
     let z : _≡_ {A = ℕ} 0 1 = cc in
     omega arith
 
-still-same : {x y : Slot} → Still x ≡ Still y → x ≡ y
+pub still-same : {x y : Slot} → Still x ≡ Still y → x ≡ y
 still-same e = cc
 
 module _ (k : ℕ) (x : Slot) (t : Thing) (ts : List Thing) where
@@ -43,8 +43,8 @@ module _ (k : ℕ) (x : Slot) (t : Thing) (ts : List Thing) where
   unfolding added
   added-on e = ap (λ (f : Fate). elim f [ Still z ↦ addedBy x t (added k z ts) | Ended ↦ [] ]) e
 
--- a packet that is added goes on with the file
-adds-goes : (x : Slot) (c : Channel) (p : List ℕ) → adds x c p ≡ true → GoesOnWith x p
+-- a packet that is added is of the file's channel, and goes on with the file
+adds-goes : (x : Slot) (c : Channel) (p : List ℕ) → adds x c p ≡ true → (packet c p ≡ packet (x .channel) p) × GoesOnWith x p
 unfolding adds concerns
 adds-goes x c p e =
     let a = packetOf p .application in
@@ -57,27 +57,33 @@ adds-goes x c p e =
     let about = and-left here (not st) first in
     let of-file = and-left (incomplete x && ofPair c a x && file) check about in
     let later = told-false (starts-exactly p) (not-true st (and-right here (not st) first)) in
-    record {
-      application =
-          sym (same-pair c a x (and-right (incomplete x) (ofPair c a x) (and-left (incomplete x && ofPair c a x) file of-file)) .1);
-      intact =
-          record {
-            file = leb-true (a .0) 2015 (and-right (incomplete x && ofPair c a x) file of-file);
-            intact = and-right (incomplete x && ofPair c a x && file) check about;
-          };
-      later = later;
-      following = goes-following x (packetOf p) (dataOf p) later (and-right (here && not st) on e);
-    }
+    let pair = same-pair c a x (and-right (incomplete x) (ofPair c a x) (and-left (incomplete x && ofPair c a x) file of-file)) in
+    let own : c ≡ x .channel = λ i. record { 0 = sym (pair .0) i } in (
+      ap (λ (d : Channel). packet d p) own,
+      record {
+        application = sym (pair .1);
+        intact =
+            record {
+              file = leb-true (a .0) 2015 (and-right (incomplete x && ofPair c a x) file of-file);
+              intact = and-right (incomplete x && ofPair c a x && file) check about;
+            };
+        later = later;
+        following = goes-following x (packetOf p) (dataOf p) later (and-right (here && not st) on e);
+      },
+    )
 
 -- what a thing that does not end the file does to it: nothing, or it is the next packet
 pub data Next (x : Slot) (t : Thing) (z : Slot) : Type 0 where
   none : z ≡ x → ((ps : List (List ℕ)) → addedBy x t ps ≡ ps) → Next x t z
-  one : {p : List ℕ} → GoesOnWith x p → z ≡ nextSlot x (packetOf p) → ((ps : List (List ℕ)) → addedBy x t ps ≡ p ∷ ps) → Next x t z
+  one : {p : List ℕ} → t ≡ packet (x .channel) p → GoesOnWith x p → z ≡ nextSlot x (packetOf p)
+      → ((ps : List (List ℕ)) → addedBy x t ps ≡ p ∷ ps) → Next x t z
 
 packet-next : (x : Slot) (c : Channel) (p : List ℕ) (z : Slot) (e a : Bool) → adds x c p ≡ a
     → _≡_ {A = Fate} (if e then Ended else Still (if a then nextSlot x (packetOf p) else x)) (Still z) → Next x (packet c p) z
 packet-next x c p z true a f q = absurd (never-still q)
-packet-next x c p z false true f q = one (adds-goes x c p f) (sym (still-same q)) (λ ps. if-true (p ∷ ps) ps f)
+packet-next x c p z false true f q =
+    let (own, g) = adds-goes x c p f in
+    one own g (sym (still-same q)) (λ ps. if-true (p ∷ ps) ps f)
 packet-next x c p z false false f q = none (sym (still-same q)) (λ ps. if-false (p ∷ ps) ps f)
 
 gone-next : (x : Slot) (j : ℕ) (z : Slot) (b : Bool) → _≡_ {A = Fate} (if b then Ended else Still x) (Still z) → Next x (gone j) z
@@ -96,7 +102,7 @@ Ordered x ps y = InOrder x ps y × (x .accepted + length ps ≡ y .accepted)
 
 ordered-next : {x z : Slot} {t : Thing} (y : Slot) (ps : List (List ℕ)) → Next x t z → Ordered z ps y → Ordered x (addedBy x t ps) y
 ordered-next y ps (none e f) o = rw (f ps) (rw e at o)
-ordered-next {x} {z} y ps (one {p} g e f) o =
+ordered-next {x} {z} y ps (one {p} own g e f) o =
     let more : z .accepted ≡ x .accepted + 1 = ap (λ (v : Slot). v .accepted) e in
     rw (f ps) ((g, rw e at (o .0)), omega (arith, o .1))
 

@@ -38,18 +38,18 @@ use Rattle.history.proofs.Follows.{opened-slot}
 use Rattle.history.proofs.Blocks.{moment-packet}
 use Rattle.history.proofs.Turns.{none-held}
 
-unless : (f : Found) {g : Found} → g ≡ f → ((k : ℕ) → g ≡ At k → ⊥) → g ≡ Nothing
+pub unless : (f : Found) {g : Found} → g ≡ f → ((k : ℕ) → g ≡ At k → ⊥) → g ≡ Nothing
 unless (At k) e n = absurd (n k e)
 unless Nothing e n = e
 
-never : {k : ℕ} → At k ≡ Nothing → ⊥
+pub never : {k : ℕ} → At k ≡ Nothing → ⊥
 never e =
     let z : _≡_ {A = ℕ} 0 1 = cc in
     omega arith
 
 module _ {s : Station} (z : Sized s) (S : Sound s) (c : Channel) (p : List ℕ) where
   -- the free blocks once an older file of the pair is ended
-  room-cleared : room (cleared c s p) ≡ roomFor s c p
+  pub room-cleared : room (cleared c s p) ≡ roomFor s c p
   room-cleared = by (fileOf s c (packetOf p .application)) refl
     where
       by : (f : Found) → fileOf s c (packetOf p .application) ≡ f → room (rid s f) ≡ s .blocks - (needs (s .slots) - needAt s f)
@@ -65,7 +65,7 @@ module _ {s : Station} (z : Sized s) (S : Sound s) (c : Channel) (p : List ℕ) 
             stays-refiled r .blocks,
           )
 
-  cleared-sized : Sized (cleared c s p)
+  pub cleared-sized : Sized (cleared c s p)
   cleared-sized = by (fileOf s c (packetOf p .application))
     where
       by : (f : Found) → Sized (rid s f)

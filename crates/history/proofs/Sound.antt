@@ -4,9 +4,15 @@ use mathlib.Core.Bool.{true}
 use mathlib.Core.List.{List, [], _∷_}
 use Prim.Native.Nat.{ℕ, _*_, _≤_, _<_}
 use native.Mathlib.Omega.{arith}
+use borrow.Author.Tests.{eq-eqb, le-leb}
+use lib.ListN.{length}
+use Rattle.octets.proofs.Tests.{and-both}
+use Rattle.frame.specs.declared.Accepted.{Accepted}
+use Rattle.frame.specs.declared.Examined.the-variants.{Good}
 use Rattle.frame.specs.Header.{derandomised, zoneOf}
 use Rattle.frame.proofs.Answers.{good-size, counter-good}
 use Rattle.frame.proofs.Sizes.{length-derandomised, length-zone}
+use Rattle.state.specs.Sound.{Sized}
 use Rattle.state.specs.Decision.{isSound, areDesksSound}
 use Rattle.state.proofs.Exactly.{sound-true, desks-true}
 use Rattle.zone.specs.Walk.{walked}
@@ -15,12 +21,15 @@ use Rattle.zone.proofs.Walks.{Kept, walked-keeps}
 use Rattle.station.specs.declared.Answered.{Answered}
 use Rattle.octets.specs.Reasons.{Reason}
 use Rattle.station.specs.Answers.{slotSays}
-use Rattle.station.specs.Frame.{FrameOutcome, channelAt}
+use Rattle.station.specs.Frame.{channelAt}
+use Rattle.station.proofs.Frames.{framed-few}
 use Rattle.station.proofs.Calls.{Goes, setUp-ready, goes-ready, release-outcome, drop-outcome, frame-never-2, release-never-2, drop-never-2, read-never-2}
-use Rattle.history.specs.Run.{World, Call, frameIn, answer, after, run, Start, fresh, SoundWorld}
+use Rattle.station.proofs.Sorted.{desk-low, desk-watched}
+use Rattle.history.specs.Run.{World, Call, answer, after, run, Start, fresh, SoundWorld}
 use Rattle.history.specs.Run.Call.{frame, read, release, drop}
+use Rattle.history.specs.Things.{examinedIn}
 use Rattle.history.specs.Demands.{EveryRun, NeverUnsound, FewEvents}
-use Rattle.history.proofs.Framing.{Taken, Framing, framing, channel-watched, taken-desk, taken-list}
+use Rattle.history.proofs.Framing.{Taken, Framing, takes-good, framing, taken-list}
 use Rattle.history.proofs.Framing.Framing.{refuses, takes}
 
 module _ {w : World} (h : SoundWorld w) where
@@ -30,9 +39,22 @@ module _ {w : World} (h : SoundWorld w) where
   pub world-desks : areDesksSound (w .station) (w .desks) ≡ true
   world-desks = desks-true (w .desks) (h .sized) (h .sound) (h .desked) (h .desks)
 
+  -- and takes every good frame with a list of the size that is asked for
+  pub sound-takes : (f list : List ℕ) {a : Accepted} → examinedIn w f ≡ Good a → 900 ≤ length list → (t : Taken w f list) × (t .frame ≡ a)
+  sound-takes f list {a} e room =
+      let s = w .station in
+      let lent =
+      and-both
+      (and-both (eq-eqb _ _ (h .desked))
+      (and-both (and-both (le-leb 1 (s .blocks) (h .sound .setUp .store)) (le-leb (s .blocks) 4096 (h .sound .setUp .least))) (eq-eqb _ _ (h .stored))))
+      (le-leb 900 (length list) room) in
+      let t = takes-good w f list lent world-sound world-desks e in
+      let good : examinedIn w f ≡ Good (t .frame) = t .good in
+      (t, cc)
+
   module _ {f list : List ℕ} (t : Taken w f list) where
     pub taken-low : t .frame .desk < w .station .channels
-    taken-low = taken-desk t (h .sized) (h .sound .setUp .few)
+    taken-low = desk-low (w .station) f (t .frame) (t .good)
 
     pub taken-counter : t .frame .counter .0 < 0x1000000
     taken-counter = counter-good _ _ f (t .frame) (t .good)
@@ -47,7 +69,7 @@ module _ {w : World} (h : SoundWorld w) where
         let lent : Lent c s (t .frame) zone (w .desks) (w .store) list =
         record {
           sound = h .sound;
-          watched = channel-watched s (t .frame .desk) taken-low;
+          watched = desk-watched s f (t .frame) (t .good);
           desk = taken-low;
           frame = length-zone (derandomised f) (length-derandomised f (good-size _ _ f (t .frame) (t .good)));
           desked = h .desked;
@@ -82,13 +104,6 @@ module _ {w : World} (h : SoundWorld w) where
   after-sound (release k) = goes-keeps k (release-outcome (w .station) k)
   after-sound (drop k) = goes-keeps k (drop-outcome (w .station) k)
 
-  frame-few : (f list : List ℕ) → Framing w f list → frameIn w f list .events ≤ 300
-  frame-few f list (refuses n one e) = omega (arith, ap (λ (r : FrameOutcome). r .events) e)
-  frame-few f list (takes t) = omega (arith, ap (λ (r : FrameOutcome). r .events) (t .gives), taken-keeps t .few)
-
-  pub few-events : FewEvents w
-  few-events f list = frame-few f list (framing w f list)
-
   pub answered-not-2 : (c : Call) → answer w c ≡ 2 → ⊥
   unfolding answer
   answered-not-2 (frame f list) = frame-never-2 (w .station) 0 world-sound (w .desks) (w .store) list f world-desks
@@ -110,6 +125,6 @@ every-sound x cs =
     let h = run-sound (fresh-sound x) cs in
     record { sound = h; never-2 = answered-not-2 h }
 
--- "no frame produces more than 300"
-pub every-few : EveryRun FewEvents
-every-few x cs = few-events (run-sound (fresh-sound x) cs)
+-- "no frame produces more than 300": of any station, sound or not
+pub few-events : (w : World) → Sized (w .station) → FewEvents w
+few-events w z f list = omega (arith, framed-few (w .station) z (w .desks) (w .store) list f)

@@ -6,7 +6,6 @@ use mathlib.Core.List.{List, [], _∷_, _++_, List·Memᴰ·not-nil, List·Mem�
 use mathlib.Core.List.List·Memᴰ.{List·Memᴰ·head, List·Memᴰ·tail}
 use Prim.Native.Nat.{ℕ, _<_}
 use native.Mathlib.Decide.{ℕ-discrete}
-use native.Mathlib.Omega.{arith}
 use borrow.Author.Tests.{eq-eqb, ne-eqb, eqb-true, eqb-false}
 use lib.Dec.{eqb, leb}
 use Rattle.octets.specs.Choice.{if_then_else_, Decides}
@@ -88,17 +87,18 @@ among-of k (x ∷ es) m = among-if (about k x) (among-of k es) m
 pub among-in : (k : ℕ) {es fs : List Event} {e : Event} → eventsOf k es ≡ fs → Among e fs → Among e es
 among-in k {es} {e = e} q m = among-of k es (subst (Among e) (sym q) m)
 
-of-none : {e x : Event} {es fs : List Event} (k : ℕ) (b : Bool) → about k x ≡ b → about k e ≡ true → (Among e es → fs ≡ [] → ⊥)
-    → Among e (x ∷ es) → (if b then x ∷ fs else fs) ≡ [] → ⊥
-of-none {x = x} {fs = fs} k true f a g m r =
-    let n : _≡_ {A = ℕ} 0 1 = cc in
-    omega arith
-of-none k false f a g m r = ⊎-elim (λ q. true≢false (sym a ∙ ap (about k) q ∙ f)) (λ n. g n r) (List·Memᴰ·cases-cons m)
+kept-if : {e x : Event} {es fs : List Event} (k : ℕ) (b : Bool) → about k x ≡ b → about k e ≡ true → (Among e es → Among e fs)
+    → Among e (x ∷ es) → Among e (if b then x ∷ fs else fs)
+kept-if k true f a g m = ⊎-elim (λ q. List·Memᴰ·head q) (λ n. List·Memᴰ·tail (g n)) (List·Memᴰ·cases-cons m)
+kept-if k false f a g m = ⊎-elim (λ q. absurd (true≢false (sym a ∙ ap (about k) q ∙ f))) g (List·Memᴰ·cases-cons m)
 
-of-among : (k : ℕ) (es : List Event) {e : Event} → about k e ≡ true → Among e es → eventsOf k es ≡ [] → ⊥
+among-kept : (k : ℕ) (es : List Event) {e : Event} → about k e ≡ true → Among e es → Among e (eventsOf k es)
 unfolding eventsOf
-of-among k [] a m q = List·Memᴰ·not-nil m
-of-among k (x ∷ es) a m q = of-none k (about k x) refl a (of-among k es a) m q
+among-kept k [] a m = m
+among-kept k (x ∷ es) a m = kept-if k (about k x) refl a (among-kept k es a) m
+
+pub in-among : (k : ℕ) {es fs : List Event} {e : Event} → about k e ≡ true → Among e es → eventsOf k es ≡ fs → Among e fs
+in-among k {es} {e = e} a m q = subst (Among e) q (among-kept k es a m)
 
 -- the kinds of event that name a slot
 abbrev naming : ℕ → Bool
@@ -206,12 +206,14 @@ module _ {s : Station} {store : List ℕ} (h : Settled s store) (k : ℕ) (low :
         fate-still k (slotAt s k) c p
         (false-unless _
         (λ e.
-        of-among k (judged c s store p .events) {e = at 6 (packetOf p .application .0) k} (eq-eqb k k refl)
-        (abandoned-exactly c s store p k .1 (told-true (ends-exactly (h .sized) (h .sound) c p k low) e)) q))
+        List·Memᴰ·not-nil
+        (in-among k {e = at 6 (packetOf p .application .0) k} (eq-eqb k k refl)
+        (abandoned-exactly c s store p k .1 (told-true (ends-exactly (h .sized) (h .sound) c p k low) e)) q)))
         (false-unless _
         (λ e.
-        of-among k (judged c s store p .events) about-next
-        (next-among (told-true (adds-exactly (h .sized) (h .sound) c p k low) e) (eqb (packetOf p .flags) 2) refl) q))
+        List·Memᴰ·not-nil
+        (in-among k about-next
+        (next-among (told-true (adds-exactly (h .sized) (h .sound) c p k low) e) (eqb (packetOf p .flags) 2) refl) q)))
 
     over : Ending c s p k → fate k (slotAt s k) (packet c p) ≡ Ended
     over e = fate-ended k (slotAt s k) c p (tells (ends-exactly (h .sized) (h .sound) c p k low) e)

@@ -3,11 +3,24 @@
 use mathlib.Core.Path.{_≡_}
 use mathlib.Core.List.{List}
 use Prim.Native.Nat.{ℕ, _≤_}
+use lib.ListN.{length}
+use Rattle.octets.specs.Number.{Octets}
+use Rattle.frame.specs.Header.{derandomised, frameOf, zoneOf}
+use Rattle.frame.specs.Plainly.{Plainly, ZonePlainly}
+use Rattle.packet.specs.Header.{packetOf}
+use Rattle.packet.specs.Plainly.{Plainly as PacketPlainly}
 use Rattle.state.specs.declared.Slot.{Slot}
+use Rattle.state.specs.Sound.{Sized}
 use Rattle.history.specs.Run.{World, Call, frameIn, answer, run, Start, fresh, SoundWorld}
 use Rattle.history.specs.Run.Call.{frame}
 use Rattle.history.specs.Calls.{Answers, SetsUp, Told}
 use Rattle.history.specs.Files.{CameInRun, PacketsRight, HeldExactly, CompleteExactly, BlocksHold, FilesCarried, PagesCame, NoStrip}
+use Rattle.history.specs.Sorted.{SortedByChannel, FilesSorted}
+use Rattle.history.specs.Freed.{HeldThen, FreesAtOnce}
+use Rattle.history.specs.Heard.{EveryChannelHeard}
+use Rattle.history.specs.Openings.{EveryFrame, RuledOnce}
+use Rattle.history.specs.Events.{EventsExactly}
+use Rattle.history.specs.Headers.{HeadersRead}
 use Rattle.history.specs.Store.{BlocksRight, Moment, EveryPacket, Judgeable, FromTheFirst, NeverLost, KeptOrEnded, Event6, RefusedForRoom, Logged}
 
 -- "From a fresh station, after any sequence of frames, reads, releases and drops, with state and memory handed back untouched"
@@ -22,9 +35,9 @@ pub record NeverUnsound (w : World) : Type 0 where
   pub sound : SoundWorld w
   pub never-2 : (c : Call) → answer w c ≡ 2 → ⊥
 
--- "no frame produces more than 300"
+-- "no frame produces more than 300": 151 is the greatest number
 abbrev pub FewEvents : World → Type 0
-FewEvents w = (f list : List ℕ) → frameIn w f list .events ≤ 300
+FewEvents w = (f list : List ℕ) → frameIn w f list .events ≤ 151
 
 -- "Whatever octets come off the dish, and whatever state we hand back"
 pub record First : Type 0 where
@@ -32,13 +45,26 @@ pub record First : Type 0 where
   -- no slot and no event."
   pub answers : (w : World) (c : Call) → Answers w c
   pub sets-up : (craft : ℕ) (channels desks store : List ℕ) → SetsUp craft channels desks store
-  -- the events of a frame are those of its list, and not too many for it
+  -- the events of a frame are those of its list, and not too many for it, whatever state was handed back
   pub told : (w : World) (f list : List ℕ) → answer w (frame f list) ≡ 0 → Told w f list
-  pub few : EveryRun FewEvents
+  pub few : (w : World) → Sized (w .station) → FewEvents w
   -- no call of a run is refused for its state
   pub sound : EveryRun NeverUnsound
 
 pub record Second : Type 0 where
+  -- "Frames are read as .. CCSDS 701.0 and 101.0 define them": header, zone and packet, in their octets as they came
+  pub header : (f : List ℕ) → length f ≡ 1024 → Octets f → Plainly f (frameOf (derandomised f))
+  pub zone : (f : List ℕ) → length f ≡ 1024 → ZonePlainly f (zoneOf (derandomised f))
+  pub packet : (p : List ℕ) → 6 ≤ length p → Octets p → PacketPlainly p (packetOf p)
+  -- "derandomised, sorted by channel": a packet is judged under the channel of the frame that brought it; a file's packets came on its channel
+  pub sorted : (m : Moment) → SortedByChannel m
+  pub files-sorted : OfEveryRun FilesSorted
+  -- packets are cut from contiguous stretches of consecutive frames; events 1, 2 and 3 exactly when their rules say, which leave no choice
+  pub heard : OfEveryRun EveryChannelHeard
+  pub frames : OfEveryRun EveryFrame
+  pub ruled : RuledOnce
+  -- "checked by CRC and sequence": what each packet gives, each event exactly when its rule says
+  pub events : EveryPacket EventsExactly
   -- "A file is complete exactly when it was opened and all its packets then came .. with nothing ending it by the paper's rules."
   pub complete : OfEveryRun CompleteExactly
   -- ".. intact, in order"
@@ -50,6 +76,8 @@ pub record Second : Type 0 where
   pub pages : OfEveryRun PagesCame
   -- no "strip of cloud from one picture sewn into another"
   pub no-strip : OfEveryRun NoStrip
+  -- "and its header records are read to their published meaning or refused by number"
+  pub headers : OfEveryRun HeadersRead
 
 pub record Third : Type 0 where
   -- "every store block is free or belongs to one held file at one place": between calls, and at every packet of a frame
@@ -61,6 +89,9 @@ pub record Third : Type 0 where
   -- by event 6, .. or by a release or drop of it."
   pub to-its-end : EveryRun NeverLost
   pub kept : EveryPacket KeptOrEnded
+  -- "An abandoned .. file frees its slot and blocks", at once; what a slot holds at every packet
+  pub frees : EveryPacket FreesAtOnce
+  pub held-then : (m : Moment) → HeldThen m
   -- "event 6, whose rules never look at room"
   pub event-6 : EveryPacket Event6
   -- "and its first blocks hold the data of its accepted packets in order"

@@ -52,10 +52,14 @@ CameInRun x cs = Came (fresh x .station) (fresh x .store) (allThings (fresh x) c
 abbrev pub packetsOf : {s : Station} {store : List ℕ} {ts : List Thing} {k : ℕ} {x : Slot} → Came s store ts k x → List (List ℕ)
 packetsOf {k = k} m = m .first ∷ added k (firstSlot (m .channel) (packetOf (m .first)) (m .file)) (m .later)
 
--- a slot holds exactly what came about
+-- in state s, after the things ts, each slot holds exactly what came about by them
+abbrev pub HoldsWhatCame : Start → List Thing → Station → Type 0
+HoldsWhatCame x ts s =
+    (k : ℕ) → k < 32 → (y : Slot) → held y ≡ true → (slotAt s k ≡ y) ↔ Came (fresh x .station) (fresh x .store) ts k y
+
+-- at the end of a run
 abbrev pub HeldExactly : Start → List Call → Type 0
-HeldExactly x cs =
-    (k : ℕ) → k < 32 → (y : Slot) → held y ≡ true → (slotAt (run (fresh x) cs .station) k ≡ y) ↔ CameInRun x cs k y
+HeldExactly x cs = HoldsWhatCame x (allThings (fresh x) cs) (run (fresh x) cs .station)
 
 -- "A file is complete exactly when it was opened and all its packets then came": they are N
 abbrev pub CompleteExactly : Start → List Call → Type 0

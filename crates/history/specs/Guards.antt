@@ -3,16 +3,27 @@
 use mathlib.Core.Path.{_≡_}
 use mathlib.Core.Bool.{true}
 use mathlib.Core.List.{List, [], _∷_, _++_}
-use Prim.Native.Nat.{ℕ, _-_, _/_, _%_, _≤_}
-use lib.ListN.{length, replicate}
+use Prim.Native.Nat.{ℕ, _≤_}
+use lib.ListN.{length}
+use Rattle.octets.specs.Number.{Octets}
+use Rattle.records.specs.declared.HeaderAnswer.{HeaderAnswer}
+use Rattle.records.specs.declared.HeaderRead.the-variants.{Read}
+use Rattle.records.specs.declared.ImageStructure.the-variants as image
+use Rattle.records.specs.declared.ImageNavigation.the-variants as navigation
+use Rattle.records.specs.declared.TimeStamp.the-variants as time
+use Rattle.records.specs.declared.ImageSegment.the-variants as segment
+use Rattle.records.specs.Reader.{refusedHeader, readHeader}
 use Rattle.state.specs.Slots.{slotAt, complete}
 use Rattle.transport.specs.declared.Transport.{Transport}
 use Rattle.judge.specs.Event.{of, at}
 use Rattle.judge.specs.Packets.{Starts}
 use Rattle.history.specs.Run.{Call, run, Start, fresh}
 use Rattle.history.specs.Run.Call.{frame, release}
+use Rattle.history.specs.Calls.{resultOf}
 use Rattle.history.specs.Store.{Moment}
-use Rattle.history.specs.Sent.{Program, sent, tenFrames, allSaid, checked, long}
+use Rattle.history.specs.Headers.{wholeRead}
+use Rattle.history.specs.Losses.{LossRuns}
+use Rattle.history.specs.Sent.{Program, sent, tenFramesOn, tenFrames, allSaid, first, middle, tiny, last, fill, wholeOf, whole, damaged, reserved, headerAlone}
 
 -- the lengths of these files in bits: N = 2, 3, 5 and 7, and the last packet has one octet
 abbrev pub twoBlocks : ℕ
@@ -26,28 +37,6 @@ fiveBlocks = 262008
 
 abbrev pub sevenBlocks : ℕ
 sevenBlocks = 393048
-
--- the first packet of a file of L bits, L below 2^24: application a, count 0, "8,190 octets", which begin with the file counter and L
-abbrev pub first : ℕ → ℕ → List ℕ
-first a L =
-    checked (0 ∷ a ∷ 0x40 ∷ 0 ∷ 0x1f ∷ 0xff ∷ [])
-    (long (0 ∷ 0 ∷ 0 ∷ 0 ∷ 0 ∷ 0 ∷ 0 ∷ L / 0x10000 ∷ L / 0x100 % 0x100 ∷ L % 0x100 ∷ []))
-
--- a middle packet with count n
-abbrev pub middle : ℕ → ℕ → List ℕ
-middle a n = checked (0 ∷ a ∷ 0 ∷ n ∷ 0x1f ∷ 0xff ∷ []) (long [])
-
--- a last packet with count n, of one octet: "CRC .. of FF: FF00"
-abbrev pub last : ℕ → ℕ → List ℕ
-last a n = 0 ∷ a ∷ 0x80 ∷ n ∷ 0 ∷ 2 ∷ 0xff ∷ 0xff ∷ 0 ∷ []
-
--- a fill packet of n octets
-abbrev pub fill : ℕ → List ℕ
-fill n = 7 ∷ 0xff ∷ 0xc0 ∷ 0 ∷ (n - 7) / 0x100 ∷ (n - 7) % 0x100 ∷ replicate (n - 6) 0
-
--- a whole packet: application 5, L = 8, and its check
-abbrev pub whole : List ℕ
-whole = 0 ∷ 5 ∷ 0xc0 ∷ 0 ∷ 0 ∷ 12 ∷ 0 ∷ 0 ∷ 0 ∷ 0 ∷ 0 ∷ 0 ∷ 0 ∷ 0 ∷ 0 ∷ 8 ∷ 0 ∷ 0x5d ∷ 0xa6 ∷ []
 
 -- "For one frame on channel 2, pointer 0, with a whole packet (application 5, L = 8) and one fill packet of 865 octets"
 abbrev pub published : List ℕ → List Call
@@ -81,6 +70,36 @@ needsSeven list =
     ++ (release 0 ∷ [])
     ++ tenFrames 40 (first 6 sevenBlocks ++ fill 642) list
 
+-- "An abandoned .. file frees its slot and blocks", at once: all seven blocks are those of a file of 5; one frame brings its end, by a middle
+-- packet of one octet, and a whole file of 6 behind it
+abbrev pub freedAtOnce : List ℕ → List Call
+freedAtOnce list =
+    tenFrames 0 (first 5 sevenBlocks ++ fill 642) list ++ (frame (sent 10 0 (tiny 0 5 1 ++ (wholeOf 6 ++ fill 856))) list ∷ [])
+
+-- ".. otherwise the lowest free slot": the file of 4 leaves slot 0, and a whole packet then abandons the file of 5 in slot 1
+abbrev pub lowerSlot : List ℕ → List Call
+lowerSlot list =
+    (frame (sent 0 0 (wholeOf 4 ++ fill 865)) list ∷ [])
+    ++ tenFrames 1 (first 5 twoBlocks ++ fill 642) list
+    ++ (release 0 ∷ [])
+    ++ (frame (sent 11 0 (whole ++ fill 865)) list ∷ [])
+
+-- "for the file of this channel and application": the first packet comes on channel 0, the last one on channel 2
+abbrev pub twoChannels : List ℕ → List Call
+twoChannels list = tenFramesOn 0 0 (first 5 twoBlocks ++ fill 642) list ++ (frame (sent 0 0 (last 5 1 ++ fill 875)) list ∷ [])
+
+-- "Wrong: event 4", "2016 to 2046: event 13", "Event 7 if the data is under 10 octets": one frame with a packet of each, and no file touched
+abbrev pub noneTouched : List ℕ → List Call
+noneTouched list = frame (sent 0 0 (damaged ++ (reserved ++ (tiny 1 5 0 ++ fill 856)))) list ∷ []
+
+-- "its header records are read to their published meaning or refused by number": a file whose header is good
+abbrev pub goodHeader : List ℕ → List Call
+goodHeader list = frame (sent 0 0 (headerAlone ++ fill 850)) list ∷ []
+
+-- what the header reader says of the file in slot 0 once it is read out
+abbrev pub headerRead : Start → List Call → HeaderAnswer
+headerRead x cs = readHeader (resultOf (run (fresh x) cs) (wholeRead (run (fresh x) cs) 0))
+
 -- what these runs give, from any set-up of the program and with any list of the size that is asked for
 pub record Runs (x : Start) (list : List ℕ) : Type 0 where
   pub is-published : allSaid (fresh x) (published list) ≡ at 10 5 0 ∷ at 12 5 0 ∷ []
@@ -90,10 +109,21 @@ pub record Runs (x : Start) (list : List ℕ) : Type 0 where
   pub two-open : allSaid (fresh x) (needsTwo list) ≡ at 10 5 0 ∷ at 10 6 1 ∷ []
   pub three-refused : allSaid (fresh x) (needsThree list) ≡ at 10 5 0 ∷ of 9 6 ∷ []
   pub seven-open : allSaid (fresh x) (needsSeven list) ≡ at 10 5 0 ∷ at 11 5 0 ∷ at 11 5 0 ∷ at 11 5 0 ∷ at 12 5 0 ∷ at 10 6 0 ∷ []
+  pub freed-at-once : allSaid (fresh x) (freedAtOnce list) ≡ at 10 5 0 ∷ at 6 5 0 ∷ at 10 6 0 ∷ at 12 6 0 ∷ []
+  pub lower-slot : allSaid (fresh x) (lowerSlot list) ≡ at 10 4 0 ∷ at 12 4 0 ∷ at 10 5 1 ∷ at 6 5 1 ∷ at 10 5 0 ∷ at 12 5 0 ∷ []
+  pub two-channels : allSaid (fresh x) (twoChannels list) ≡ at 10 5 0 ∷ of 5 5 ∷ []
+  pub none-touched : allSaid (fresh x) (noneTouched list) ≡ of 4 5 ∷ of 13 2016 ∷ of 7 5 ∷ []
+  -- "20: header: fewer than 16 octets": the published file has one
+  pub header-refused : headerRead x (published list) ≡ refusedHeader 20
+  pub header-read :
+      headerRead x (goodHeader list) .read
+      ≡ Read (record { primary = record { filetype = 2; length = 16; bits = 0 }; image = image.Absent; navigation = navigation.Absent; time = time.Absent; segment = segment.Absent })
 
 pub record Guards : Type 0 where
   -- there is such a set-up
   pub set-up : (x : Start) × Program x
-  -- there is a moment at which a packet that starts a file is judged
-  pub moment : (m : Moment) × (t : Transport) × Starts (m .p) t
+  -- there is a moment at which a packet that starts a file is judged, on a frame of octets
+  pub moment : (m : Moment) × Octets (m .sent) × (t : Transport) × Starts (m .p) t
   pub runs : (x : Start) → Program x → (list : List ℕ) → 900 ≤ length list → Runs x list
+  -- and runs in which octets are lost
+  pub losses : LossRuns

@@ -6,6 +6,13 @@ pub mod Ledger
 pub mod Calls
 pub mod Files
 pub mod Store
+pub mod Sorted
+pub mod Freed
+pub mod Openings
+pub mod Heard
+pub mod Events
+pub mod Headers
 pub mod Demands
 pub mod Sent
+pub mod Losses
 pub mod Guards
