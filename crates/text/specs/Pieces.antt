@@ -3,11 +3,19 @@ use mathlib.Core.Path.{_≡_}
 use mathlib.Core.Bool.{Bool}
 use mathlib.Core.List.{List, [], _∷_, _++_}
 use Prim.Native.Nat.{ℕ, _+_}
+use Prim.Native.Char.{code}
+use Prim.Native.String.{String}
+use Prim.Native.String as string
 use lib.Dec.{eqb}
 use lib.ListN.{length}
 use Rattle.io.specs.Digits.{digits}
 use Rattle.octets.specs.Choice.{if_then_else_}
 use Rattle.octets.specs.Buffer.{put}
+
+-- a word, as the octets of its letters
+abbrev pub ascii : String → List ℕ
+ascii string.[] = []
+ascii (string._∷_ c s) = code c ∷ ascii s
 
 -- "without leading zeros": a zero in front of another digit goes
 unfoldable pub unled : List ℕ → List ℕ

@@ -63,6 +63,24 @@ pub fn numbers(a: u64, b: u64, c: u64, out: &mut [u8], at: usize) -> usize
     number(c, out, third)
 }
 
+// A word and a number.
+pub fn with_number(w: &[u8], n: u64, out: &mut [u8], at: usize) -> usize
+    requires { ⌜ at + length (now w) + 21 ≤ length (now out) ⌝ }
+    ensures { λ r. ⌜ (r ≤ at + length (now (w .entry)) + 21) × Written (now (out .entry)) at (now (w .entry) ++ spaced n) (now (out .exit)) r ⌝ }
+{
+    let end = word(w, out, at);
+    number(n, out, end)
+}
+
+// A word and three numbers.
+pub fn with_three(w: &[u8], a: u64, b: u64, c: u64, out: &mut [u8], at: usize) -> usize
+    requires { ⌜ at + length (now w) + 63 ≤ length (now out) ⌝ }
+    ensures { λ r. ⌜ (r ≤ at + length (now (w .entry)) + 63) × Written (now (out .entry)) at (now (w .entry) ++ spacedThree a b c) (now (out .exit)) r ⌝ }
+{
+    let end = word(w, out, at);
+    numbers(a, b, c, out, end)
+}
+
 // A number in hexadecimal, lower case, with so many digits.
 pub fn hex(v: u64, width: usize, out: &mut [u8], at: usize) -> usize
     requires { ⌜ (1 ≤ width) × (width ≤ 16) × (v < 16 ^ width) × (at + width ≤ length (now out)) ⌝ }

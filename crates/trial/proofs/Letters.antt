@@ -13,7 +13,7 @@ use Rattle.trial.specs.declared.command.Command.{Command}
 use Rattle.trial.specs.declared.command.Payload.the-variants.{Octets, Refused}
 use Rattle.trial.specs.Script.{payloadOf}
 use Rattle.station.specs.Files.{released, dropped}
-use Rattle.trial.specs.Told.{answerLine, frameText, readText, told}
+use Rattle.trial.specs.Told.{answerLine, frameText, readText, shownBy, told}
 use Rattle.trial.specs.World.{World, setUpBy, frameBy, readBy, lent, wasSetUp, tookFrame, wasReleased, wasDropped, octetPoked, statePoked, pokedBy, carriedOut}
 
 never : {n : ℕ} → Refused ≡ Octets n → ⊥
@@ -78,12 +78,12 @@ module _ (x : Command) (payload : List ℕ) (w : World) where
   unfolding carriedOut told
   by-d l = (rw (is l 0x53, is l 0x46, is l 0x4C, is l 0x44), rw (is l 0x53, is l 0x46, is l 0x52, is l 0x4C, is l 0x44))
 
-  pub by-h : x .letter ≡ 0x48 → (carriedOut x payload w ≡ w) × (told x payload w ≡ [])
+  pub by-h : x .letter ≡ 0x48 → (carriedOut x payload w ≡ w) × (told x payload w ≡ shownBy w)
   unfolding carriedOut told pokedBy
-  by-h l = (rw (is l 0x53, is l 0x46, is l 0x4C, is l 0x44, is l 0x4D, is l 0x50, is l 0x51), rw (is l 0x53, is l 0x46, is l 0x52, is l 0x4C, is l 0x44))
+  by-h l = (rw (is l 0x53, is l 0x46, is l 0x4C, is l 0x44, is l 0x4D, is l 0x50, is l 0x51), rw (is l 0x53, is l 0x46, is l 0x52, is l 0x4C, is l 0x44, is l 0x48))
 
   pub by-other : (x .letter ≡ 0x53 → ⊥) → (x .letter ≡ 0x46 → ⊥) → (x .letter ≡ 0x52 → ⊥) → (x .letter ≡ 0x4C → ⊥) → (x .letter ≡ 0x44 → ⊥)
-      → (carriedOut x payload w ≡ pokedBy x w) × (told x payload w ≡ [])
+      → (x .letter ≡ 0x48 → ⊥) → (carriedOut x payload w ≡ pokedBy x w) × (told x payload w ≡ [])
   unfolding carriedOut told
-  by-other s f r l d =
-      (rw (ne-eqb _ _ s, ne-eqb _ _ f, ne-eqb _ _ l, ne-eqb _ _ d), rw (ne-eqb _ _ s, ne-eqb _ _ f, ne-eqb _ _ r, ne-eqb _ _ l, ne-eqb _ _ d))
+  by-other s f r l d n =
+      (rw (ne-eqb _ _ s, ne-eqb _ _ f, ne-eqb _ _ l, ne-eqb _ _ d), rw (ne-eqb _ _ s, ne-eqb _ _ f, ne-eqb _ _ r, ne-eqb _ _ l, ne-eqb _ _ d, ne-eqb _ _ n))

@@ -3,4 +3,3 @@ pub mod Script
 pub mod World
 pub mod Pokes
 pub mod Told
-pub mod Shown

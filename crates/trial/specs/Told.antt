@@ -10,7 +10,8 @@ use Rattle.text.specs.Lines.{newline, eventLines}
 use Rattle.station.specs.Frame.{FrameOutcome}
 use Rattle.station.specs.Files.{ReadOutcome, released, dropped}
 use Rattle.trial.specs.declared.command.Command.{Command}
-use Rattle.trial.specs.World.{World, setUpBy, frameBy, readBy}
+use Rattle.show.specs.Shown.{shown}
+use Rattle.trial.specs.World.{World, lentDesks, lentStore, setUpBy, frameBy, readBy}
 
 -- "S answer", "L answer", "D answer": a letter and a number
 abbrev pub answerLine : ℕ → ℕ → List ℕ
@@ -31,7 +32,11 @@ octetsText o = if eqb (o .answer) 0 && not (eqb (length (o .buffer)) 0) then 0x2
 abbrev pub readText : ReadOutcome → List ℕ
 readText o = 0x52 ∷ [] ++ spaced (o .answer) ++ octetsText o ++ newline
 
--- by the letter; M, P and Q print nothing, and H prints line by line
+-- H: "shows everything", of the desks and of the store what is lent
+abbrev pub shownBy : World → List ℕ
+shownBy w = shown (w .station) (lentDesks w) (lentStore w)
+
+-- by the letter; M, P and Q print nothing
 unfoldable pub told : Command → List ℕ → World → List ℕ
 told x payload w =
     if eqb (x .letter) 0x53 then answerLine 0x53 (setUpBy x payload w .answer)
@@ -39,4 +44,5 @@ told x payload w =
     else if eqb (x .letter) 0x52 then readText (readBy x w)
     else if eqb (x .letter) 0x4C then answerLine 0x4C (released (w .station) (x .b) .answer)
     else if eqb (x .letter) 0x44 then answerLine 0x44 (dropped (w .station) (x .b) .answer)
+    else if eqb (x .letter) 0x48 then shownBy w
     else []

@@ -2,11 +2,10 @@
 //
 // Owns the memory: a desk buffer, a store buffer and a state, of which any octet and any field can be set. Promises: the program is safe and
 // ends; each command changes state, desks and store as specs/World.antt has it, by the station's own definitions, and what it prints is the
-// text of what came of it (specs/Told.antt, specs/Shown.antt).
+// text of what came of it (specs/Told.antt).
 mod calls;
 mod command;
 mod pokes;
-mod show;
 
 use command::Command;
 use command::Payload;
@@ -28,11 +27,10 @@ const DESKS: usize = 73782;
 
 const STORE: usize = 532351;
 
-// The most octets that follow a command, and the room for the longest text of one: a letter, a number, a space, the digits of 16,384 octets
-// and the line's end.
+// The most octets that follow a command, and the room for the longest text of one, that of H.
 const PAYLOAD: usize = 2048;
 
-const TEXT: usize = 32800;
+const TEXT: usize = 90844;
 
 // Octets of an input that no run comes to.
 const NEVER: u64 = 0x4000000000000000;
@@ -56,7 +54,7 @@ fn finish(run: Run, end: usize) -> Done
     Done { run: run, end: end }
 }
 
-// One command. Its text stands at the start of out, but for H, which prints line by line.
+// One command. Its text stands at the start of out.
 fn carry_out(
     w: Run,
     x: Command,
@@ -65,10 +63,10 @@ fn carry_out(
     store: &mut [u8],
     out: &mut [u8],
 ) -> Done
-    requires { ⌜ (w .desks ≤ length (now desks)) × (w .store ≤ length (now store)) × (length (now out) ≡ 32800) ⌝ }
+    requires { ⌜ (w .desks ≤ length (now desks)) × (w .store ≤ length (now store)) × (length (now out) ≡ 90844) ⌝ }
     requires { ⌜ payloadOf x ≡ Payload.Octets (length (now payload)) ⌝ }
     ensures { λ r. ⌜ world (r .run) (now (desks .exit)) (now (store .exit)) ≡ carriedOut x (now (payload .entry)) (world w (now (desks .entry)) (now (store .entry))) ⌝ }
-    ensures { λ r. ⌜ (r .end ≤ 32800) × Written (now (out .entry)) 0 (told x (now (payload .entry)) (world w (now (desks .entry)) (now (store .entry)))) (now (out .exit)) (r .end) ⌝ }
+    ensures { λ r. ⌜ (r .end ≤ 90844) × Written (now (out .entry)) 0 (told x (now (payload .entry)) (world w (now (desks .entry)) (now (store .entry)))) (now (out .exit)) (r .end) ⌝ }
 {
     let letter = x.letter;
     if letter == b'S' {
@@ -88,8 +86,8 @@ fn carry_out(
         return calls::drop_file(w, x, out);
     }
     if letter == b'H' {
-        show::show(w, desks, store);
-        return finish(w, 0);
+        let end = calls::show_lent(w, desks, store, out);
+        return finish(w, end);
     }
     let run = pokes::poke(w, x, desks, store);
     finish(run, 0)
@@ -148,7 +146,7 @@ fn obey(
     store: &mut [u8],
     out: &mut [u8],
 ) -> Run
-    requires { ⌜ (w .desks ≤ length (now desks)) × (w .store ≤ length (now store)) × (length (now out) ≡ 32800) ⌝ }
+    requires { ⌜ (w .desks ≤ length (now desks)) × (w .store ≤ length (now store)) × (length (now out) ≡ 90844) ⌝ }
     requires { ⌜ (payloadOf x ≡ Payload.Octets k) × (k ≤ length (now payload)) ⌝ }
     ensures { λ r. ⌜ world r (now (desks .exit)) (now (store .exit)) ≡ carriedOut x (take k (now (payload .entry))) (world w (now (desks .entry)) (now (store .entry))) ⌝ }
     ensures { λ r. ⌜ (r .desks ≤ length (now (desks .entry))) × (r .store ≤ length (now (store .entry))) ⌝ }
@@ -162,20 +160,20 @@ fn obey(
 
 // The last line: how many commands were carried out, and how many octets of the script were not used.
 fn end(n: u64, unused: u64, out: &mut [u8])
-    requires { ⌜ length (now out) ≡ 32800 ⌝ }
+    requires { ⌜ length (now out) ≡ 90844 ⌝ }
     ensures { λ _. ⌜ now (out .exit) ≡ put (now (out .entry)) 0 (endLine n unused) ⌝ }
 {
     let last = text::end_line(n, unused, out, 0);
     io::write_all(STDOUT_FILENO, &out[0..last]);
 }
 
-// Nothing says that an input ends, and a proved loop has to: it stops at a number of commands that no run comes to.
-fn main() {
-    let mut desks = [0u8; DESKS];
-    let mut store = [0u8; STORE];
+// The script, command by command. Nothing says that an input ends, and a proved loop has to: it stops at a number of commands that no run
+// comes to.
+fn follow(desks: &mut [u8], store: &mut [u8], out: &mut [u8])
+    requires { ⌜ length (now out) ≡ 90844 ⌝ }
+{
     let mut head = [0u8; Command::SIZE];
     let mut payload = [0u8; PAYLOAD];
-    let mut out = [0u8; TEXT];
     let zero = Station::zero();
     let mut w = Run {
         station: zero,
@@ -186,20 +184,27 @@ fn main() {
     while n < u64::MAX {
         let got = io::read_full(STDIN_FILENO, &mut head);
         if got < Command::SIZE {
-            end(n, got as u64, &mut out);
+            end(n, got as u64, out);
             return;
         }
         let x = Command::read(&head);
         let f = fetch(x, &mut payload);
         match f {
             Fetched::Unused(m) => {
-                end(n, m, &mut out);
+                end(n, m, out);
                 return;
             }
             Fetched::Octets(k) => {
-                w = obey(w, x, &payload, k, &mut desks, &mut store, &mut out);
+                w = obey(w, x, &payload, k, desks, store, out);
             }
         }
         n += 1;
     }
+}
+
+fn main() {
+    let mut desks = [0u8; DESKS];
+    let mut store = [0u8; STORE];
+    let mut out = [0u8; TEXT];
+    follow(&mut desks, &mut store, &mut out);
 }

@@ -16,16 +16,6 @@ ghost use Rattle.station.specs.SetUp.{channelOf};
 ghost use Rattle.trial.specs.World.{world, lent, octetPoked, pokedBy};
 ghost use Rattle.trial.specs.Pokes.{deskPoked, slotPoked, poked};
 
-// The lesser of a number asked and a number there is.
-pub fn cut_down(asked: u64, most: usize) -> usize
-    ensures { λ r. ⌜ (r ≡ min asked most) × (r ≤ most) ⌝ }
-{
-    if asked <= most as u64 {
-        return asked as usize;
-    }
-    most
-}
-
 fn lend(w: Run, x: Command, desks: &[u8], store: &[u8]) -> Run
     ensures { λ r. ⌜ world r (now (desks .entry)) (now (store .entry)) ≡ lent x (world w (now (desks .entry)) (now (store .entry))) ⌝ }
     ensures { λ r. ⌜ (r .desks ≤ length (now (desks .entry))) × (r .store ≤ length (now (store .entry))) ⌝ }
@@ -33,8 +23,8 @@ fn lend(w: Run, x: Command, desks: &[u8], store: &[u8]) -> Run
     let station = w.station;
     Run {
         station: station,
-        desks: cut_down(x.c as u64, desks.len()),
-        store: cut_down(x.d, store.len()),
+        desks: show::cut_down(x.c as u64, desks.len()),
+        store: show::cut_down(x.d, store.len()),
     }
 }
 

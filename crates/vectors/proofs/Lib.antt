@@ -1,4 +1,7 @@
--- Laws of digits read, and of signs.
+-- Laws of digits read, of ranges, of the sequence written, and of a script: octet by octet, and as a whole.
 pub mod Decoding
 pub mod Questions
-pub mod Signs
+pub mod Checks
+pub mod Sounding
+pub mod Coming
+pub mod Whole

@@ -1,8 +1,8 @@
--- The form of a question, and how a line is kept that may be one. Assumes nothing.
+-- The form of a question. Assumes nothing.
 use mathlib.Core.List.{List, [], _∷_}
 use mathlib.Core.Option.{Option, none, some}
-use Prim.Native.Nat.{ℕ, _+_}
-use lib.Dec.{eqb, ltb}
+use Prim.Native.Nat.{ℕ}
+use lib.Dec.{eqb}
 use lib.ListN.{take}
 use Rattle.octets.specs.Choice.{if_then_else_}
 use Rattle.vectors.specs.Digits.{octetsOf}
@@ -23,7 +23,3 @@ foundIn Nothing xs = none
 abbrev pub countOf : Decoded → ℕ
 countOf (Octets n) = n
 countOf Nothing = 0
-
--- the octets of a line with one more, of which 2,050 can belong to a question: 2,051 stands for every greater number
-abbrev pub oneMore : ℕ → ℕ
-oneMore held = if ltb held 2050 then held + 1 else 2051

@@ -92,8 +92,8 @@ returns-5 c =
     let e = c .before .before .drop-file .ensures in
     (e .0 (a .desks .now) (a .store .now) ∙ sym (law .0), (e .1 .0, rw (law .1) (e .1 .1)))
 
-show-requires : tie.Need-show-requires
-show-requires c κs = search needs
+show-lent-requires : tie.Need-show-lent-requires
+show-lent-requires c κs = search needs
 
 finish-requires-2 : tie.Need-finish-requires-2
 finish-requires-2 c κs = search needs
@@ -104,12 +104,16 @@ same-length-11 c = search needs
 same-length-12 : tie.Need-same-length-12
 same-length-12 c = search needs
 
+same-length-13 : tie.Need-same-length-13
+same-length-13 c = search needs
+
 returns-6 : tie.Need-returns-6
 returns-6 c =
-    let a = c .before .before .before .before .before .before .before .before .before .before .before .before .before .before .args in
-    let law = by-h (a .x) (a .payload .now) (world (a .w) (a .desks .now) (a .store .now)) (c .before .before .before .before .if6 .taken) in
+    let a = c .before .before .before .before .before .before .before .before .before .before .before .before .before .before .before .before .before .args in
+    let law = by-h (a .x) (a .payload .now) (world (a .w) (a .desks .now) (a .store .now)) (c .before .before .before .before .before .before .before .if6 .taken) in
+    let e = c .before .before .before .show-lent .ensures in
     let f = c .finish2 .ensures in
-    (rw f (sym (law .0)), (rw f (omega arith), rw (f, law .1) (nothing _ 0)))
+    (rw f (sym (law .0)), (rw f (e .0), rw (f, law .1) (e .1)))
 
 poke-requires : tie.Need-poke-requires
 poke-requires c κs = search needs
@@ -117,16 +121,16 @@ poke-requires c κs = search needs
 finish-requires-3 : tie.Need-finish-requires-3
 finish-requires-3 c κs = search needs
 
-same-length-13 : tie.Need-same-length-13
-same-length-13 c = search needs
-
 same-length-14 : tie.Need-same-length-14
 same-length-14 c = search needs
+
+same-length-15 : tie.Need-same-length-15
+same-length-15 c = search needs
 
 returns-7 : tie.Need-returns-7
 returns-7 c =
     let a = c .before .before .before .before .before .before .before .before .before .before .before .before .before .before .before .before .before .before .args in
-    let law = by-other (a .x) (a .payload .now) (world (a .w) (a .desks .now) (a .store .now)) (c .before .before .before .before .before .before .before .before .before .before .before .before .before .if1 .left) (c .before .before .before .before .before .before .before .before .before .before .before .before .if2 .left) (c .before .before .before .before .before .before .before .before .before .before .before .if3 .left) (c .before .before .before .before .before .before .before .before .before .before .if4 .left) (c .before .before .before .before .before .before .before .before .before .if5 .left) in
+    let law = by-other (a .x) (a .payload .now) (world (a .w) (a .desks .now) (a .store .now)) (c .before .before .before .before .before .before .before .before .before .before .before .before .before .if1 .left) (c .before .before .before .before .before .before .before .before .before .before .before .before .if2 .left) (c .before .before .before .before .before .before .before .before .before .before .before .if3 .left) (c .before .before .before .before .before .before .before .before .before .before .if4 .left) (c .before .before .before .before .before .before .before .before .before .if5 .left) (c .before .before .before .before .before .before .before .before .if6 .left) in
     let f = c .finish3 .ensures in
     (rw f (c .before .before .before .before .before .poke .ensures ∙ sym (law .0)), (rw f (omega arith), rw (f, law .1) (nothing _ 0)))
 
@@ -155,13 +159,14 @@ carry-out-spec =
     drop-file-requires
     same-length-10
     returns-5
-    show-requires
+    show-lent-requires
     finish-requires-2
     same-length-11
     same-length-12
+    same-length-13
     returns-6
     poke-requires
     finish-requires-3
-    same-length-13
     same-length-14
+    same-length-15
     returns-7)

@@ -6,10 +6,10 @@ use Rattle.vectors.proofs.main.Statement.{statement}
 use Rattle.vectors.proofs.main.Tie as tie
 
 abbrev Inv-loop : tie.InvT-loop
-Inv-loop came₀ line₀ held₀ turns₀ came line held turns = (length came ≡ 4096) × (length line ≡ 2050)
+Inv-loop came₀ line₀ out₀ held₀ turns₀ came line out held turns = (length came ≡ 4096) × (length line ≡ 2050) × (length out ≡ 2051)
 
 abbrev μ-loop : tie.MeasureT-loop
-μ-loop came₀ line₀ held₀ turns₀ came line held turns = turns
+μ-loop came₀ line₀ out₀ held₀ turns₀ came line out held turns = turns
 
 buffer-requires : tie.Need-buffer-requires Inv-loop μ-loop
 buffer-requires c κs = search needs
@@ -44,6 +44,9 @@ part-take-in-end c = search needs
 slice-aggregate-take-in : tie.Need-slice-aggregate-take-in Inv-loop μ-loop
 slice-aggregate-take-in c = search needs
 
+slice-aggregate-take-in-2 : tie.Need-slice-aggregate-take-in-2 Inv-loop μ-loop
+slice-aggregate-take-in-2 c = search needs
+
 take-in-requires : tie.Need-take-in-requires Inv-loop μ-loop
 take-in-requires c κs = search needs
 
@@ -76,6 +79,7 @@ main-spec =
     part-take-in-start
     part-take-in-end
     slice-aggregate-take-in
+    slice-aggregate-take-in-2
     take-in-requires
     sub-turns
     loop-less

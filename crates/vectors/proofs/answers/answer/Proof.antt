@@ -1,8 +1,11 @@
--- `vectors::answers::answer` is safe: a question has at most 1,024 octets. Assumes nothing.
+-- `vectors::answers::answer` meets its contract. Assumes nothing.
+use mathlib.Core.Path.{subst}
 use Prim.Native.Nat.{_≤_}
 use native.Mathlib.Omega.{arith}
+use native.Mathlib.Nat.{sub-zero}
 use borrow.Author.Needs.{needs}
-use mathlib.Core.Path.{subst}
+use borrow.Author.Tests.{lt-ltb, le-ltb}
+use Rattle.vectors.specs.Answers.{answerOf}
 use Rattle.vectors.specs.Question.{countOf}
 use Rattle.vectors.specs.declared.digits.Decoded.{Decoded}
 use Rattle.vectors.proofs.answers.answer.Statement.{statement}
@@ -15,7 +18,8 @@ same-length : tie.Need-same-length
 same-length c = search needs
 
 returns : tie.Need-returns
-returns c = search needs
+unfolding answerOf
+returns c = rw (lt-ltb _ _ (c .before .before .before .before .if1 .taken)) (c .before .before .refusal .ensures)
 
 sub-question : tie.Need-sub-question
 sub-question c = search needs
@@ -45,10 +49,7 @@ part-answer-to-start : tie.Need-part-answer-to-start
 part-answer-to-start c = search needs
 
 part-answer-to-end : tie.Need-part-answer-to-end
-part-answer-to-end c =
-    let told = c .before .before .before .d .given .1 in
-    let few = c .before .before .before .before .before .before .question .ensures .0 in
-    omega (arith, subst (λ (d : Decoded). countOf d ≤ 1024) told few)
+part-answer-to-end c = omega (arith, subst (λ (d : Decoded). countOf d ≤ 1024) (c .before .before .before .d .given .1) (c .before .before .before .before .before .before .question .ensures .0))
 
 answer-to-requires : tie.Need-answer-to-requires
 answer-to-requires c κs = search needs
@@ -57,7 +58,8 @@ same-length-2 : tie.Need-same-length-2
 same-length-2 c = search needs
 
 returns-2 : tie.Need-returns-2
-returns-2 c = search needs
+unfolding answerOf
+returns-2 c = rw (le-ltb _ _ (c .before .before .before .before .before .before .before .before .before .before .before .before .before .before .if1 .left), ← (rw (c .before .before .before .before .before .before .before .before .d .given .1, sub-zero) at (c .before .before .before .before .before .before .before .before .before .before .before .question .ensures .1))) (rw sub-zero at (c .before .before .answer-to .ensures))
 
 enum-told : tie.Need-enum-told
 enum-told c = search needs
@@ -69,7 +71,8 @@ same-length-3 : tie.Need-same-length-3
 same-length-3 c = search needs
 
 returns-3 : tie.Need-returns-3
-returns-3 c = search needs
+unfolding answerOf
+returns-3 c = rw (le-ltb _ _ (c .before .before .before .before .before .before .before .before .before .before .if1 .left), ← (rw (c .before .before .before .before .enum-told .given .1, sub-zero) at (c .before .before .before .before .before .before .before .question .ensures .1))) (c .before .before .refusal2 .ensures)
 
 pub answer-spec : {M : Type 1} → statement M
 answer-spec =

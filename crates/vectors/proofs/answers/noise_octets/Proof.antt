@@ -1,25 +1,19 @@
--- `vectors::answers::noise_octets` is safe and ends. Each turn adds two digits to the text. Assumes nothing.
-use mathlib.Core.Path.{_≡_}
-use Prim.Native.Nat.{_+_, _-_, _*_, _≤_}
+-- `vectors::answers::noise_octets` meets its contract. What is written so far, and the digits of the octets that are left, is the whole. Assumes nothing.
+use Prim.Native.Nat.{_-_}
+use native.Mathlib.Omega.{arith}
 use borrow.Author.Needs.{needs}
-use lib.ListN.{length}
+use Rattle.vectors.proofs.Sounding.{sounding-none, sounding-more, sounding-all, Sounding}
 use Rattle.vectors.proofs.answers.noise_octets.Statement.{statement}
 use Rattle.vectors.proofs.answers.noise_octets.Tie as tie
 
 abbrev Inv-loop : tie.InvT-loop
-Inv-loop from number out₀ end₀ i₀ out end i = (i ≤ number) × (end ≡ 2 + 2 * i) × (length out ≡ 2051)
+Inv-loop from number out₀ at end₀ i₀ out end i = Sounding from number out₀ at out end i
 
 abbrev μ-loop : tie.MeasureT-loop
-μ-loop from number out₀ end₀ i₀ out end i = number - i
-
-slice-aggregate-word : tie.Need-slice-aggregate-word Inv-loop μ-loop
-slice-aggregate-word c = search needs
-
-word-requires : tie.Need-word-requires Inv-loop μ-loop
-word-requires c κs = search needs
+μ-loop from number out₀ at end₀ i₀ out end i = number - i
 
 loop-holds : tie.Need-loop-holds Inv-loop μ-loop
-loop-holds c = search needs
+loop-holds c = sounding-none _ _ _ _
 
 add-noise-at : tie.Need-add-noise-at Inv-loop μ-loop
 add-noise-at c = search needs
@@ -40,13 +34,13 @@ loop-less : tie.Need-loop-less Inv-loop μ-loop
 loop-less c = search needs
 
 loop-again : tie.Need-loop-again Inv-loop μ-loop
-loop-again c = search needs
+loop-again c = sounding-more (c .before .before .before .before .before .before .loop .inv) (omega arith) (c .before .before .hex .ensures .0) (search needs) (rw (c .before .before .before .before .noise-at .ensures) at (c .before .before .hex .ensures .1))
 
 same-length : tie.Need-same-length Inv-loop μ-loop
 same-length c = search needs
 
 returns : tie.Need-returns Inv-loop μ-loop
-returns c = search needs
+returns c = (search needs, sounding-all (c .before .loop .inv) (omega arith))
 
 pub noise-octets-spec : {M : Type 1} → statement M
 noise-octets-spec =
@@ -54,8 +48,6 @@ noise-octets-spec =
     (tie.spec
     Inv-loop
     μ-loop
-    slice-aggregate-word
-    word-requires
     loop-holds
     add-noise-at
     noise-at-requires

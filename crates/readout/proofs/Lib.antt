@@ -1,0 +1,2 @@
+-- Laws of signs.
+pub mod Signs
