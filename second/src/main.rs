@@ -2,13 +2,15 @@ use std::ffi::OsString;
 use std::io::{self, BufWriter, Read, Write};
 use std::process::ExitCode;
 
-use second::{cases, demo, headers, make, program, random, stream, trial, vectors};
+use second::makers::{cases, demo, headers, loads, make, random, stream};
+use second::model::{program, trial, vectors};
 
 const USAGE: &str = "usage: second vectors|trial|receive < input
        second example|headers|cases|page|demo
        second case NAME
        second random SEED COMMANDS
-       second stream SEED FRAMES";
+       second stream SEED FRAMES
+       second load NAME SIZE";
 
 fn main() -> ExitCode {
     let words: Vec<OsString> = std::env::args_os().skip(1).collect();
@@ -36,6 +38,9 @@ fn carry_out(words: &[&str], out: &mut dyn Write) -> bool {
         ["case", name] => return cases::write_case(name, out),
         ["random", seed, commands] => return with_numbers(seed, commands, random::run, out),
         ["stream", seed, frames] => return with_numbers(seed, frames, stream::run, out),
+        ["load", name, size] => {
+            return size.parse().is_ok_and(|size| loads::run(name, size, out));
+        }
         _ => return false,
     }
     true

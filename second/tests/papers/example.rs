@@ -1,10 +1,10 @@
 //! 01's example frame.
 
-use second::frame::Channel;
-use second::make::{self, File, PacketFields};
-use second::packet::{Application, Flags};
-use second::program;
-use second::vectors::hexadecimal;
+use second::makers::make::{self, File, PacketFields};
+use second::model::frame::Channel;
+use second::model::packet::{Application, Flags};
+use second::model::program;
+use second::model::vectors::hexadecimal;
 
 use crate::sha256;
 

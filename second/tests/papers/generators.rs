@@ -2,7 +2,8 @@
 
 use std::collections::BTreeSet;
 
-use second::{cases, demo, program, random, records, stream, trial};
+use second::makers::{cases, demo, loads, random, stream};
+use second::model::{program, records, trial};
 
 fn tried(script: &[u8]) -> String {
     let mut out = Vec::new();
@@ -115,5 +116,36 @@ fn the_files_of_the_demo_have_good_headers() {
     for (file, last) in [(demo::first_picture(), 128), (demo::bulletin(), 5)] {
         let records = records::records(&file).expect("a good header");
         assert_eq!(records.last().map(|record| record.kind), Some(last));
+    }
+}
+
+fn loaded(name: &str, size: usize) -> Vec<u8> {
+    let mut out = Vec::new();
+    assert!(loads::run(name, size, &mut out), "{name}");
+    out
+}
+
+#[test]
+fn a_load_of_frames_only_goes_on_and_all_of_it_is_taken() {
+    for name in ["long", "files", "fill", "small", "whole"] {
+        let (shorter, longer) = (loaded(name, 5), loaded(name, 11));
+        assert_eq!(shorter, longer[..5 * 1024], "{name}");
+        let mut out = Vec::new();
+        program::run(&mut &longer[..], &mut out);
+        let out = String::from_utf8(out).expect("ASCII");
+        let taken = out.lines().filter(|line| line.starts_with("F "));
+        assert!(taken
+            .clone()
+            .all(|line| line.split(' ').nth(2) == Some("0")));
+        assert_eq!((taken.count(), last_line(&out)), (11, "END 11 0"), "{name}");
+    }
+    assert!(!loads::run("other", 1, &mut Vec::new()));
+}
+
+#[test]
+fn a_load_of_releases_is_judged_and_changes_nothing() {
+    for (name, answer) in [("sound", "L 11"), ("unsound", "L 2")] {
+        let out = tried(&loaded(name, 3));
+        assert_eq!(out.lines().filter(|&line| line == answer).count(), 3);
     }
 }

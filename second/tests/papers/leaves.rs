@@ -1,11 +1,11 @@
 //! The published vectors of the leaves.
 
-use second::crc::crc;
-use second::frame::{self, Channel, Start};
-use second::noise;
-use second::packet::{self, Application, Flags, Kind};
-use second::transport;
-use second::vectors::hexadecimal;
+use second::model::crc::crc;
+use second::model::frame::{self, Channel, Start};
+use second::model::noise;
+use second::model::packet::{self, Application, Flags, Kind};
+use second::model::transport;
+use second::model::vectors::hexadecimal;
 
 const NOISE: &str = concat!(
     "ff480ec09a0d70bc8e2c93ada7b746ce5a977dcc32a2bf3e0a10f18894cdeab1fe901d81341ae1791c59275b4f6e8d9c",

@@ -1,9 +1,9 @@
 //! A station with its memory, and the packets that the cases are made of.
 
-use second::frame::Channel;
-use second::make::{self, File, PacketFields};
-use second::packet::{Application, Flags};
-use second::station::{self, Refusal, State};
+use second::makers::make::{self, File, PacketFields};
+use second::model::frame::Channel;
+use second::model::packet::{Application, Flags};
+use second::model::station::{self, Refusal, State};
 
 pub type Numbers = [u16; 3];
 

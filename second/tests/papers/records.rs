@@ -1,8 +1,8 @@
 //! The header reader: the papers' records, and 20 to 27 on both sides of their lines.
 
-use second::make_header::{file, image, navigation, primary, record, segment, text, time};
-use second::records::{header, record as record_of, Record, Refusal};
-use second::vectors;
+use second::makers::make_header::{file, image, navigation, primary, record, segment, text, time};
+use second::model::records::{header, record as record_of, Record, Refusal};
+use second::model::vectors;
 
 fn octets(hexadecimal: &str) -> Vec<u8> {
     let digits: Vec<char> = hexadecimal.chars().filter(|digit| *digit != ' ').collect();

@@ -1,8 +1,8 @@
 //! 01's table of answers, in the order of its numbers.
 
-use second::frame::Channel;
-use second::make;
-use second::station::{self, Refusal, State};
+use second::makers::make;
+use second::model::frame::Channel;
+use second::model::station::{self, Refusal, State};
 
 use crate::memory::{frame, Station};
 

@@ -1,10 +1,10 @@
 //! Rubbish off the dish: every run ends, and a state handed back untouched stays sound.
 
-use second::frame::Channel;
-use second::make::{self, PacketFields};
-use second::packet::{Application, Flags};
-use second::station::{self, Refusal};
-use second::{program, trial, vectors};
+use second::makers::make::{self, PacketFields};
+use second::model::frame::Channel;
+use second::model::packet::{Application, Flags};
+use second::model::station::{self, Refusal};
+use second::model::{program, trial, vectors};
 
 use crate::memory::Station;
 
@@ -86,7 +86,9 @@ fn some_frames(chance: &mut Chance, channel: u8, counter: u32) -> Vec<Vec<u8>> {
 fn blocks_are_accounted_for(station: &Station) {
     let slots = &station.state.slots;
     let needs = slots.iter().filter(|file| file.is_held());
-    let taken: u128 = needs.map(|file| second::transport::need(file.length)).sum();
+    let taken: u128 = needs
+        .map(|file| second::model::transport::need(file.length))
+        .sum();
     assert_eq!(taken + station.state.free_blocks().len() as u128, 9);
 }
 

@@ -1,7 +1,7 @@
 //! The vectors script and the trial script.
 
-use second::make;
-use second::{trial, vectors};
+use second::makers::make;
+use second::model::{trial, vectors};
 
 fn answers(script: &str) -> String {
     let mut out = Vec::new();
@@ -136,8 +136,8 @@ fn the_example_frame_tried() {
     ]);
     let store = [&[0, 0, 0, 0, 0, 0, 0, 0, 0, 8][..], &vec![0; 7 * 8190 - 10]].concat();
     let (desks, store) = (
-        second::crc::crc(&vec![0; 4 * 8198]),
-        second::crc::crc(&store),
+        second::model::crc::crc(&vec![0; 4 * 8198]),
+        second::model::crc::crc(&store),
     );
     let expected = format!(
         "S 0\nF 0 2\nE 10 5 0\nE 12 5 0\nH {desks} {store}\nT 0 2 5 8 0 1 0\nK 0 0 0 0\n\
@@ -169,8 +169,8 @@ fn pokes() {
         command(b'L', 0, 4, 0, 0, &[]),
     ]);
     let crcs = (
-        second::crc::crc(&vec![0; 4 * 8198]),
-        second::crc::crc(&vec![0; 7 * 8190]),
+        second::model::crc::crc(&vec![0; 4 * 8198]),
+        second::model::crc::crc(&vec![0; 7 * 8190]),
     );
     let expected = format!(
         "S 0\nF 2 0\nF 3 0\nH {} {}\nT 4 2 0 8 0 1 6\nK 0 0 0 0\nK 1 0 0 0\nK 2 0 1 0\n\
@@ -196,7 +196,7 @@ fn where_a_run_ends() {
     ] {
         assert_eq!(tried(&[script]), format!("{empty}{left}\n"));
     }
-    let nothing = second::crc::crc(&[]);
+    let nothing = second::model::crc::crc(&[]);
     let shown = format!("H {nothing} {nothing}\nL 2\nD 2\nR 1\nF 1 0\nS 10\nEND 6 17\n");
     let letters = [
         (b'H', 0),

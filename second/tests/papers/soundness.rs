@@ -1,9 +1,9 @@
 //! Every clause of 01's soundness broken alone.
 
-use second::frame::Channel;
-use second::make;
-use second::packet::Application;
-use second::station::{self, Refusal, State};
+use second::makers::make;
+use second::model::frame::Channel;
+use second::model::packet::Application;
+use second::model::station::{self, Refusal, State};
 
 use crate::memory::{file, frame, Station};
 

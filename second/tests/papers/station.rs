@@ -1,8 +1,8 @@
 //! 01's cases over frames and files.
 
-use second::make;
-use second::packet::{Application, Flags};
-use second::station::{self, Refusal};
+use second::makers::make;
+use second::model::packet::{Application, Flags};
+use second::model::station::{self, Refusal};
 
 use crate::memory::{damaged, file, frame, packet, Station};
 
@@ -91,7 +91,7 @@ fn first_packet_that_lacks(lacked: usize) -> Vec<Vec<u8>> {
     let first = file(0, 5, 2).packets(0)[0].clone();
     let mut frames = make::frames(
         1,
-        second::frame::Channel(0),
+        second::model::frame::Channel(0),
         0,
         &[make::fill(884 - before), first],
     );
@@ -106,7 +106,7 @@ fn events_with_pointer(lacked: usize, pointer: u16) -> (Vec<[u16; 3]>, usize) {
     let (last, before) = frames.split_last().expect("frames");
     assert!(station.frames(before).is_empty());
     assert_eq!(station.held(0), 8198 - lacked);
-    let zone = second::frame::zone(&second::frame::derandomised(last)).to_vec();
+    let zone = second::model::frame::zone(&second::model::frame::derandomised(last)).to_vec();
     let events = station.frame(&frame(0, before.len() as u32, pointer, &zone));
     (events.expect("answer 0"), station.held(0))
 }
@@ -219,7 +219,12 @@ fn two_channels_have_two_files_of_one_application() {
 #[test]
 fn a_gap_drops_what_is_held() {
     let mut station = Station::new(&[0], 7);
-    let frames = make::frames(1, second::frame::Channel(0), 0, &file(0, 5, 1).packets(0));
+    let frames = make::frames(
+        1,
+        second::model::frame::Channel(0),
+        0,
+        &file(0, 5, 1).packets(0),
+    );
     assert_eq!(station.frame(&frames[0]), Ok(vec![]));
     assert_eq!(station.held(0), 884);
     assert_eq!(station.frame(&frames[0]), Ok(vec![[1, 0, 0]]));
@@ -273,7 +278,12 @@ fn five_octets_left_are_not_judged_and_six_are() {
 #[test]
 fn all_slots_held_gives_8_before_9() {
     let mut station = Station::new(&[0], 32);
-    let whole = make::File::of(second::frame::Channel(0), Application(1), 7, &[1, 2, 3]);
+    let whole = make::File::of(
+        second::model::frame::Channel(0),
+        Application(1),
+        7,
+        &[1, 2, 3],
+    );
     let many: Vec<Vec<u8>> = (0..33).flat_map(|_| whole.packets(0)).collect();
     let events = station.packets(0, &many);
     assert_eq!(events.len(), 65);

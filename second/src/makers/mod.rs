@@ -1,0 +1,13 @@
+//! What makes input for the receiver: cases, random scripts, streams and the demonstration.
+
+pub mod cases;
+pub mod chance;
+pub mod demo;
+pub mod headers;
+pub mod loads;
+pub mod make;
+pub mod make_header;
+pub mod random;
+pub mod script;
+pub mod sender;
+pub mod stream;

@@ -1,0 +1,17 @@
+//! What the receiver must do, and what its programs must print.
+
+pub mod bits;
+pub mod crc;
+pub mod events;
+pub mod files;
+pub mod frame;
+pub mod noise;
+pub mod packet;
+pub mod program;
+pub mod records;
+pub mod sound;
+pub mod station;
+pub mod transport;
+pub mod trial;
+pub mod vectors;
+pub mod zone;
