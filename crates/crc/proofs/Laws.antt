@@ -1,5 +1,5 @@
--- The register over joined octets, how large it can be, and that data followed by its own check leaves it 0. Assumes nothing.
-use mathlib.Core.Path.{_≡_, refl, ap₂, _∙_}
+-- The register over joined octets, how large it can be, that data followed by its own check leaves it 0, and that zeros then do. Assumes nothing.
+use mathlib.Core.Path.{_≡_, refl, ap, ap₂, _∙_}
 use mathlib.Core.Bool.{Bool, true, false}
 use mathlib.Core.List.{List, [], _∷_, _++_}
 use Prim.Native.Nat.{ℕ, zero, suc, _+_, _*_, _/_, _%_, _^_, _<_, _≤_}
@@ -8,6 +8,7 @@ use native.Mathlib.Omega.{arith}
 use borrow.Author.Tests.{lt-ltb}
 use lib.Bits.{bitXor, xor-lt, xor-block, xor-self, xor-zero-r}
 use lib.Dec.{ltb}
+use lib.ListN.{replicate}
 use lib.Pow.{pow-pos}
 use Rattle.octets.specs.Choice.{if_then_else_}
 use Rattle.crc.specs.Crc.{bit, shifted, octet, crcFrom, crcOf}
@@ -76,3 +77,13 @@ crc-own c xs = crc-append c xs (crcFrom c xs / 0x100 ∷ crcFrom c xs % 0x100 �
 pub crcOf-own : (xs : List ℕ) → crcOf (xs ++ crcOf xs / 0x100 ∷ crcOf xs % 0x100 ∷ []) ≡ 0
 unfolding crcOf
 crcOf-own xs = crc-own 0xffff xs
+
+-- zeros leave a register of 0 as it is
+crc-zeros : (n : ℕ) → crcFrom 0 (replicate n 0) ≡ 0
+unfolding crcFrom octet shifted bit
+crc-zeros zero = refl
+crc-zeros (suc n) = crc-zeros n
+
+pub crcOf-zeros : (xs : List ℕ) (n : ℕ) → crcOf xs ≡ 0 → crcOf (xs ++ replicate n 0) ≡ 0
+unfolding crcOf
+crcOf-zeros xs n e = crc-append 0xffff xs (replicate n 0) ∙ ap (λ (c : ℕ). crcFrom c (replicate n 0)) e ∙ crc-zeros n

@@ -1,2 +1,2 @@
--- The packets' check.
+-- The packets' check. All of it is the paper.
 pub mod Crc

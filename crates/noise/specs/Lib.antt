@@ -1,2 +1,2 @@
--- The pseudo-random sequence.
+-- The pseudo-random sequence. All of it is the paper.
 pub mod Noise

@@ -29,6 +29,12 @@ exactly d = (told-true d, tells d)
 pub decides-of : {P : Type 0} {a b : Bool} → a ≡ b → Decides P b → Decides P a
 decides-of {P} e d = subst (Decides P) (sym e) d
 
+-- one fact has one answer
+pub decides-once : {P : Type 0} {a b : Bool} → Decides P a → Decides P b → a ≡ b
+decides-once (holds p) d = sym (tells d p)
+decides-once (fails f) (holds q) = absurd (f q)
+decides-once (fails f) (fails g) = refl
+
 -- the same fact in other words
 pub decides-same : {P Q : Type 0} {r : Bool} → (P → Q) → (Q → P) → Decides P r → Decides Q r
 decides-same to back (holds p) = holds (to p)

@@ -1,18 +1,15 @@
 -- The laws of the test of each element of a list. Assumes nothing.
-use mathlib.Core.Path.{_≡_, refl, sym, ap, _∙_}
-use mathlib.Core.Bool.{Bool, true, _&&_, and-assoc, and-true}
+use mathlib.Core.Path.{_≡_, refl}
+use mathlib.Core.Bool.{Bool, true, _&&_, and-assoc}
 use mathlib.Core.List.{List, [], _∷_, _++_}
-use Prim.Native.Nat.{ℕ, suc, _+_, _<_}
-use native.Mathlib.Numerals.{add-one}
+use Prim.Native.Nat.{ℕ, suc, _<_}
 use native.Mathlib.Omega.{arith}
-use lib.ListN.{length, getD, take, drop, take-append-drop}
-use lib.Seq.{take-suc}
+use lib.ListN.{length, getD}
 use Rattle.octets.specs.Choice.{Decides}
 use Rattle.octets.specs.Choice.Decides.{holds}
 use Rattle.octets.specs.Each.{each}
-use Rattle.octets.proofs.Tests.{and-left, and-right}
 use Rattle.octets.proofs.Below.{Below, below-none}
-use Rattle.octets.proofs.Decide.{told-true, tells, decides-self, decides-below}
+use Rattle.octets.proofs.Decide.{told-true, decides-self, decides-below}
 
 module _ {A : Type 0} (f : A → Bool) where
   pub decides-each : (P : ℕ → Type 0) (xs : List A) (d : A) → ((i : ℕ) → i < length xs → Decides (P i) (f (getD xs i d)))
@@ -28,9 +25,6 @@ module _ {A : Type 0} (f : A → Bool) where
   pub each-at : (xs : List A) (d : A) → each f xs ≡ true → (i : ℕ) → i < length xs → f (getD xs i d) ≡ true
   each-at xs d = told-true (each-tells xs d)
 
-  pub each-all : (xs : List A) (d : A) → ((i : ℕ) → i < length xs → f (getD xs i d) ≡ true) → each f xs ≡ true
-  each-all xs d = tells (each-tells xs d)
-
   pub each-cons : (x : A) (xs : List A) → each f (x ∷ xs) ≡ (f x && each f xs)
   unfolding each
   each-cons x xs = refl
@@ -39,18 +33,3 @@ module _ {A : Type 0} (f : A → Bool) where
   unfolding each
   each-append [] ys = refl
   each-append (x ∷ xs) ys = rw (each-append xs ys, and-assoc (f x) (each f xs) (each f ys))
-
-  pub each-parts : (n : ℕ) (xs : List A) → each f xs ≡ (each f (take n xs) && each f (drop n xs))
-  each-parts n xs = ap (each f) (sym (take-append-drop n xs)) ∙ each-append (take n xs) (drop n xs)
-
-  pub each-take : (n : ℕ) (xs : List A) → each f xs ≡ true → each f (take n xs) ≡ true
-  each-take n xs e = and-left (each f (take n xs)) (each f (drop n xs)) (sym (each-parts n xs) ∙ e)
-
-  pub each-drop : (n : ℕ) (xs : List A) → each f xs ≡ true → each f (drop n xs) ≡ true
-  each-drop n xs e = and-right (each f (take n xs)) (each f (drop n xs)) (sym (each-parts n xs) ∙ e)
-
-  -- one element more
-  pub each-more : (xs : List A) (i : ℕ) (d : A) → i < length xs → each f (take (i + 1) xs) ≡ (each f (take i xs) && f (getD xs i d))
-  unfolding each
-  each-more xs i d h =
-      rw (add-one, take-suc xs i d) (each-append (take i xs) (getD xs i d ∷ []) ∙ rw (and-true (f (getD xs i d))))

@@ -1,16 +1,19 @@
--- The laws of numbers in octets: two stretches after each other, the bound, a number that is read octet by octet, and fields of bits. Assumes nothing.
+-- The laws of numbers in octets: two stretches after each other, the bound, a number that is read octet by octet, fields of bits, and bits
+-- rounded up to octets. Assumes nothing.
 use mathlib.Core.Path.{_≡_, refl, sym, ap, ap₂, _∙_}
 use mathlib.Core.List.{List, [], _∷_, _++_}
 use Prim.Native.Nat.{ℕ, zero, suc, _+_, _-_, _*_, _/_, _%_, _^_, _<_, _≤_}
-use native.Mathlib.Nat.{add-zero, zero-add, add-assoc, zero-mul, add-mul, mul-assoc, pow-suc, pow-succ', lt-of-lt-of-le, min-le-left, div-one, mod-lt, mod-eq-of-lt, mul-add-div-right, mul-add-mod-self-right}
+use native.Mathlib.Nat.{zero-add, add-assoc, zero-mul, add-mul, mul-assoc, pow-suc, pow-succ', lt-of-lt-of-le, min-le-left, mod-lt, mul-add-div-right, mul-add-mod-self-right}
 use native.Mathlib.Numerals.{add-one}
 use native.Mathlib.Omega.{arith}
+use borrow.Author.Tests.{eqb-true, eqb-false}
+use lib.Dec.{eqb}
 use lib.ListN.{length, take, drop, getD, length-append, length-take, length-drop}
 use lib.Arith.{digits-lt}
 use lib.Pow.{pow-add, pow-mono, pow-pos, shr-shr, high}
 use lib.Seq.{drop-cons, take-suc, getD-drop, length-take-le}
-use Rattle.octets.specs.Number.{Octets, part, number, numberAt, bitsAt}
-use Rattle.octets.proofs.Lists.{whole-part, part-part, three-parts}
+use Rattle.octets.specs.Number.{Octets, part, number, numberAt, bitsAt, roundedUp}
+use Rattle.octets.proofs.Lists.{whole-part, part-part, three-parts, if-cases}
 
 pub octets-drop : (xs : List ℕ) (n : ℕ) → Octets xs → Octets (drop n xs)
 octets-drop xs n h i = rw getD-drop (h (n + i))
@@ -158,12 +161,10 @@ pub bitsAt-below : (xs : List ℕ) (from w : ℕ) → bitsAt xs from w < 2 ^ w
 unfolding bitsAt
 bitsAt-below xs from w = mod-lt (number xs / 2 ^ (8 * length xs - (from + w))) (pow-pos w)
 
--- a field of whole octets is the number in them
-pub bitsAt-octets : (xs : List ℕ) (at n : ℕ) → Octets xs → at + n ≤ length xs → bitsAt xs (8 * at) (8 * n) ≡ numberAt xs at n
-unfolding numberAt
-bitsAt-octets xs at n h whole =
-    let count : length (part at n xs) ≡ n = whole-part xs at n whole in
-    let none : 8 * n - (0 + 8 * n) ≡ 0 = omega arith in
-    let below : number (part at n xs) < 2 ^ (8 * n) = rw count at (number-bits (part at n xs) (octets-part xs at n h)) in
-    ap (λ (b : ℕ). bitsAt xs b (8 * n)) (sym (add-zero (8 * at))) ∙ bitsAt-number xs at n 0 (8 * n) h whole (omega arith)
-    ∙ rw (none, div-one) (mod-eq-of-lt below)
+-- "rounded up": as few octets as hold the bits
+pub rounded-up : (bits : ℕ) → (bits ≤ 8 * roundedUp bits) × (8 * roundedUp bits < bits + 8)
+unfolding roundedUp
+rounded-up bits =
+    if-cases (λ (one : ℕ). (bits ≤ 8 * (bits / 8 + one)) × (8 * (bits / 8 + one) < bits + 8)) (eqb (bits % 8) 0)
+    (λ whole. let none : bits % 8 ≡ 0 = eqb-true (bits % 8) 0 whole in (omega arith, omega arith))
+    (λ rest. let some = eqb-false (bits % 8) 0 rest in (omega (arith, some), omega arith))

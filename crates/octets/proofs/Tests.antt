@@ -1,6 +1,6 @@
 -- How the outcome of a test in the code meets the same test in a definition, and tests put together by "and". Assumes nothing.
 use mathlib.Core.Path.{_≡_, refl, sym, _∙_}
-use mathlib.Core.Bool.{Bool, true, false, not, _&&_, false≢true}
+use mathlib.Core.Bool.{Bool, true, false, not, _&&_, and-false, false≢true}
 use borrow.Author.Needs.{needs}
 use borrow.Author.Tests.{lt-ltb, le-ltb, le-leb, lt-leb, eq-eqb, ne-eqb, not-true, not-false}
 
@@ -25,6 +25,11 @@ and-right false b e = absurd (false≢true e)
 
 pub and-both : {a b : Bool} → a ≡ true → b ≡ true → (a && b) ≡ true
 and-both p q = rw (p, q)
+
+pub and-exchange : (p q r s : Bool) → ((p && q) && (r && s)) ≡ ((p && r) && (q && s))
+and-exchange true q true s = refl
+and-exchange true q false s = and-false q
+and-exchange false q r s = refl
 
 pub true-unless : (b : Bool) → (b ≡ false → ⊥) → b ≡ true
 true-unless true f = refl

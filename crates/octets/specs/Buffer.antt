@@ -13,3 +13,7 @@ put xs at what = sets xs at what
 unfoldable pub allZero : List ℕ → Bool
 allZero [] = true
 allZero (x ∷ xs) = eqb x 0 && allZero xs
+
+-- no octet but zero in four stretches
+abbrev pub fourZero : List ℕ → List ℕ → List ℕ → List ℕ → Bool
+fourZero a b c d = (allZero a && allZero b) && (allZero c && allZero d)

@@ -1,7 +1,7 @@
 -- "Numbers are unsigned and most significant octet first unless said otherwise." Assumes nothing.
 use mathlib.Core.List.{List, [], _∷_}
 use Prim.Native.Nat.{ℕ, _+_, _-_, _*_, _/_, _%_, _^_, _<_}
-use lib.Dec.{ltb}
+use lib.Dec.{eqb, ltb}
 use lib.ListN.{length, take, drop, getD}
 use lib.IntN.{ℤ, pos, subℕ}
 use Rattle.octets.specs.Choice.{if_then_else_}
@@ -30,3 +30,7 @@ bitsAt xs from w = number xs / 2 ^ (8 * length xs - (from + w)) % 2 ^ w
 -- a signed number of four octets: the number itself, or less 2^32 where the top bit is 1
 unfoldable pub signed : ℕ → ℤ
 signed n = if ltb n (2 ^ 31) then pos n else subℕ n (2 ^ 32)
+
+-- the octets that so many bits fill: "rounded up to octets"
+unfoldable pub roundedUp : ℕ → ℕ
+roundedUp bits = bits / 8 + (if eqb (bits % 8) 0 then 0 else 1)

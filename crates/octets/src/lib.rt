@@ -3,10 +3,10 @@
 // Promises: a number read is the number that the octets stand for, at every width by one law; a copy and a blank are an equation on the
 // whole buffer, so that nothing outside the stretch named is touched. The callers of this crate show that the stretch is there.
 ghost use mathlib.Core.Path.{_≡_};
-ghost use Prim.Native.Nat.{_+_, _*_, _-_, _^_, _≤_, _<_};
+ghost use Prim.Native.Nat.{min, _+_, _*_, _-_, _^_, _≤_, _<_};
 ghost use lib.ListN.{length, replicate};
-ghost use Rattle.octets.specs.Number.{part, numberAt, signed};
-ghost use Rattle.octets.specs.Buffer.{put, allZero};
+ghost use Rattle.octets.specs.Number.{part, numberAt, signed, roundedUp};
+ghost use Rattle.octets.specs.Buffer.{put, allZero, fourZero};
 
 // The number in the w octets from place at on.
 pub fn number(s: &[u8], at: usize, w: usize) -> u64
@@ -61,6 +61,22 @@ pub fn i32_at(s: &[u8], at: usize) -> i32
     ((n as i64) - 4294967296) as i32
 }
 
+pub fn least(a: usize, b: usize) -> usize
+    ensures { λ r. ⌜ r ≡ min a b ⌝ }
+{
+    if a < b { a } else { b }
+}
+
+// The octets that so many bits fill, rounded up. Nothing is added before the division, so nothing wraps.
+pub fn rounded_up(bits: u64) -> u64
+    ensures { λ r. ⌜ (r ≡ roundedUp bits) × (r ≤ 2 ^ 61) ⌝ }
+{
+    if bits % 8 == 0 {
+        return bits / 8;
+    }
+    bits / 8 + 1
+}
+
 // All of src, stored in dst from place at on.
 pub fn copy(src: &[u8], dst: &mut [u8], at: usize)
     requires { ⌜ at + length (now src) ≤ length (now dst) ⌝ }
@@ -85,9 +101,22 @@ pub fn blank(dst: &mut [u8], at: usize, n: usize)
     }
 }
 
-// Whether the octets from place from up to place to are all zero. The "or" is gathered over the whole stretch, with no way out at the
-// first octet that is not zero: such a loop becomes vector code.
-pub fn all_zero(s: &[u8], from: usize, to: usize) -> bool
+// Whether the octets of four stretches of one length are all zero. The "or" is gathered over them all, with no way out at the first octet
+// that is not zero: such a loop becomes vector code, and four reads in a turn halve its cost.
+fn four_zero(a: &[u8], b: &[u8], c: &[u8], d: &[u8]) -> bool
+    requires { ⌜ (length (now a) ≡ length (now b)) × (length (now b) ≡ length (now c)) × (length (now c) ≡ length (now d)) ⌝ }
+    ensures { λ r. ⌜ r ≡ fourZero (now (a .entry)) (now (b .entry)) (now (c .entry)) (now (d .entry)) ⌝ }
+{
+    let mut any: u8 = 0;
+    let mut i: usize = 0;
+    while i < a.len() {
+        any = any | ((a[i] | b[i]) | (c[i] | d[i]));
+        i += 1;
+    }
+    any == 0
+}
+
+fn run_zero(s: &[u8], from: usize, to: usize) -> bool
     requires { ⌜ (from ≤ to) × (to ≤ length (now s)) ⌝ }
     ensures { λ r. ⌜ r ≡ allZero (part from (to - from) (now (s .entry))) ⌝ }
 {
@@ -98,4 +127,25 @@ pub fn all_zero(s: &[u8], from: usize, to: usize) -> bool
         i += 1;
     }
     any == 0
+}
+
+// Whether the octets from place from up to place to are all zero: four quarters at once, and the few octets that are left.
+pub fn all_zero(s: &[u8], from: usize, to: usize) -> bool
+    requires { ⌜ (from ≤ to) × (to ≤ length (now s)) ⌝ }
+    ensures { λ r. ⌜ r ≡ allZero (part from (to - from) (now (s .entry))) ⌝ }
+{
+    let quarter = (to - from) / 4;
+    let second = from + quarter;
+    let third = second + quarter;
+    let fourth = third + quarter;
+    let end = fourth + quarter;
+    if !four_zero(
+        &s[from..second],
+        &s[second..third],
+        &s[third..fourth],
+        &s[fourth..end],
+    ) {
+        return false;
+    }
+    run_zero(s, end, to)
 }

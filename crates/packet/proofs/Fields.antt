@@ -45,5 +45,5 @@ bounded xs =
       application = bitsAt-below h 5 11;
       flags = bitsAt-below h 16 2;
       count = bitsAt-below h 18 14;
-      length = bitsAt-below h 32 16;
+      long = bitsAt-below h 32 16;
     }

@@ -1,15 +1,17 @@
 -- What a look at some octets tells: that there are too few, that the header is bad, or all that is known of a good one; and that only the
 -- first six octets are looked at. Assumes nothing.
 use mathlib.Core.Path.{_≡_, refl, sym, subst}
-use mathlib.Core.Bool.{Bool, true, false, true≢false, _||_}
+use mathlib.Core.Bool.{Bool, true, false}
 use mathlib.Core.List.{List, _++_}
+use mathlib.Core.Logic.{_⊎_, inl, inr}
 use Prim.Native.Nat.{ℕ, _≤_, _<_}
 use native.Mathlib.Omega.{arith}
-use borrow.Author.Tests.{ltb-true, ltb-false, eqb-true, not-false, le-ltb, le-leb}
+use borrow.Author.Tests.{ltb-true, ltb-false, le-ltb}
 use lib.Dec.{ltb}
 use lib.ListN.{length, take, length-append}
 use lib.Seq.{length-take-le, take-take, take-append-le}
-use Rattle.octets.specs.Choice.{if_then_else_}
+use Rattle.octets.specs.Choice.{if_then_else_, Decides}
+use Rattle.octets.proofs.Decide.{told-false, decides-same, decides-leb, decides-ltb, decides-eqb, decides-not, decides-or, _and_}
 use Rattle.packet.specs.declared.Packet.{Packet}
 use Rattle.packet.specs.declared.Look.{Look}
 use Rattle.packet.specs.declared.Look.the-variants.{Short, Bad, Good}
@@ -30,48 +32,56 @@ pub record Header (xs : List ℕ) (p : Packet) : Type 0 where
   -- a packet of a file has room for its check
   pub checked : p .application .0 ≤ 2015 → 9 ≤ sizeOf p
 
-neither : (a b : Bool) → (a || b) ≡ false → (a ≡ false) × (b ≡ false)
-neither true b e = absurd (true≢false e)
-neither false b e = (refl, e)
+-- the faults of a header
+pub faults : (p : Packet) → Decides (((0 < p .version) ⊎ (8191 < p .length)) ⊎ ((p .application .0 ≤ 2015) × (p .length < 2))) (bad p)
+unfolding bad
+faults p =
+    let version : Decides (0 < p .version) _ = decides-same (λ f. omega arith) (λ h e. omega arith) (decides-not (decides-eqb (p .version) 0)) in
+    decides-or (decides-or version (decides-ltb 8191 (p .length))) (decides-leb (p .application .0) 2015 and decides-ltb (p .length) 2)
 
 header : (xs : List ℕ) → 6 ≤ length xs → bad (packetOf xs) ≡ false → Header xs (packetOf xs)
-unfolding packetOf bad
 header xs h e =
     let p = packetOf xs in
-    let apart : (_ ≡ false) × (_ ≡ false) = neither _ _ e in
-    let first : (_ ≡ false) × (_ ≡ false) = neither _ _ (apart .0) in
-    let long : p .length ≤ 8191 = ltb-false _ _ (first .1) in
+    let none = told-false (faults p) e in
+    let zero : 0 < p .version → ⊥ = λ v. none (inl (inl v)) in
+    let long : 8191 < p .length → ⊥ = λ l. none (inl (inr l)) in
     record {
       six = h;
       is = refl;
       good = e;
-      version = eqb-true _ _ (not-false _ (first .0));
+      version = omega arith;
       application = bounded xs .application;
       flags = bounded xs .flags;
       count = bounded xs .count;
       smallest = omega arith;
       largest = omega arith;
-      checked = λ k. omega (arith, ltb-false (p .length) 2 (rw (le-leb _ _ k) at (apart .1)));
+      checked = λ k.
+          let short : p .length < 2 → ⊥ = λ l. none (inr (k, l)) in
+          omega arith;
     }
 
 -- what each outcome tells of the octets
-abbrev pub Tells : List ℕ → Look → Type 0
-Tells xs Short = length xs < 6
-Tells xs Bad = (6 ≤ length xs) × (bad (packetOf xs) ≡ true)
-Tells xs (Good p) = Header xs p
+abbrev pub LookTells : List ℕ → Look → Type 0
+LookTells xs Short = length xs < 6
+LookTells xs Bad = (6 ≤ length xs) × (bad (packetOf xs) ≡ true)
+LookTells xs (Good p) = Header xs p
 
-pub look-tells : (xs : List ℕ) {l : Look} → lookOf xs ≡ l → Tells xs l
+pub look-tells : (xs : List ℕ) {l : Look} → lookOf xs ≡ l → LookTells xs l
 unfolding lookOf
-look-tells xs e = subst (Tells xs) e (go _ _ refl refl)
+look-tells xs e = subst (LookTells xs) e (go _ _ refl refl)
   where
     go : (few spoilt : Bool) → ltb (length xs) 6 ≡ few → bad (packetOf xs) ≡ spoilt
-        → Tells xs (if few then Short else if spoilt then Bad else Good (packetOf xs))
+        → LookTells xs (if few then Short else if spoilt then Bad else Good (packetOf xs))
     go true spoilt h b = ltb-true _ _ h
     go false true h b = (ltb-false _ _ h, b)
     go false false h b = header xs (ltb-false _ _ h) b
 
 pub look-good : (xs : List ℕ) (p : Packet) → lookOf xs ≡ Good p → Header xs p
 look-good xs p e = look-tells xs e
+
+pub look-bad : (xs : List ℕ) → 6 ≤ length xs → bad (packetOf xs) ≡ true → lookOf xs ≡ Bad
+unfolding lookOf
+look-bad xs h b = rw (le-ltb _ _ h, b)
 
 -- only the first six octets are looked at
 pub look-same : (xs ys : List ℕ) → 6 ≤ length xs → 6 ≤ length ys → take 6 xs ≡ take 6 ys → lookOf xs ≡ lookOf ys

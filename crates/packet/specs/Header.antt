@@ -28,7 +28,7 @@ pub record Bounded (h : Packet) : Type 0 where
   pub application : h .application .0 < 2048
   pub flags : h .flags < 4
   pub count : h .count .0 < 16384
-  pub length : h .length < 65536
+  pub long : h .length < 65536
 
 -- "A packet has 7 + length octets."
 abbrev pub sizeOf : Packet → ℕ

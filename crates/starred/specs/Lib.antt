@@ -1,2 +1,2 @@
--- The starred cases.
+-- The starred cases. All of it is the paper.
 pub mod Cases

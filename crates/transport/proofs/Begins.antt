@@ -22,12 +22,12 @@ unfolding begunOf
 length-wrong flags d long is bad = rw (le-ltb _ _ long, ← is, bad)
 
 -- data with a good length, of which only the shape is left to judge
-pub record Ready (d : List ℕ) (t : Transport) : Type 0 where
+pub record LengthRight (d : List ℕ) (t : Transport) : Type 0 where
   pub long : 10 ≤ length d
   pub is : t ≡ transportOf d
   pub good : goodLength (t .bits) ≡ true
 
-pub shape-decides : (flags : ℕ) {d : List ℕ} {t : Transport} → Ready d t
+pub shape-decides : (flags : ℕ) {d : List ℕ} {t : Transport} → LengthRight d t
     → (shape : Bool) → shape ≡ (eqb flags 1 && firstFits (length d) (t .bits) || eqb flags 3 && wholeFits (length d) (t .bits))
     → (if shape then Right t else Wrong) ≡ begunOf flags d
 unfolding begunOf

@@ -1,11 +1,15 @@
--- The laws of the need and the rest. None looks at what `octetsOfBits` or `goodLength` say: each holds of every L, whatever octets a file
--- of L bits has, because the ten octets in front of it are always there. Assumes nothing.
-use mathlib.Core.Path.{_≡_}
-use Prim.Native.Nat.{ℕ, _+_, _-_, _*_, _≤_, _<_}
+-- The laws of the need and the rest. None looks at what `goodLength` says, and `octets-few` alone at what `octetsOfBits` says: the others
+-- hold of every L, whatever octets a file of L bits has, because the ten octets in front of it are always there. Assumes nothing.
+use mathlib.Core.Path.{_≡_, refl}
+use Prim.Native.Nat.{ℕ, _+_, _-_, _*_, _^_, _≤_, _<_}
 use native.Mathlib.Omega.{arith}
 use Rattle.transport.specs.Length.{octetsOfBits, transportSize, need, rest}
 
 module _ (L : ℕ) where
+  pub size-sum : transportSize L ≡ 10 + octetsOfBits L
+  unfolding transportSize
+  size-sum = refl
+
   pub need-one : 1 ≤ need L
   unfolding need transportSize
   need-one = omega arith
@@ -27,5 +31,13 @@ module _ (L : ℕ) where
   rest-bounds = omega (arith, rest-sum, need-one, need-covers, need-least)
 
   pub need-by-octets : octetsOfBits L ≤ 8190 * need L - 10
-  unfolding transportSize
-  need-by-octets = omega (arith, need-covers)
+  need-by-octets = omega (arith, size-sum, need-covers)
+
+  -- no octet more than the bits begin
+  pub octets-few : 8 * octetsOfBits L < L + 8
+  unfolding octetsOfBits
+  octets-few = omega arith
+
+  -- a length of 64 bits needs fewer than 2^49 blocks, so that 32 needs add up in 64 bits
+  pub need-small : L < 2 ^ 64 → need L < 2 ^ 49
+  need-small h = omega (arith, size-sum, need-least, octets-few)

@@ -1,45 +1,131 @@
--- `octets::all_zero` meets its contract. The invariant: the stretch is blank exactly if the "or" so far is 0 and what is left is blank. Assumes nothing.
-use mathlib.Core.Path.{_≡_, refl}
-use mathlib.Core.Bool.{_&&_}
-use Prim.Native.Nat.{_-_, _≤_}
+-- `octets::all_zero` meets its contract, by those of `four_zero` and `run_zero`. Assumes nothing.
+use mathlib.Core.Path.{_≡_, sym, _∙_}
+use mathlib.Core.Bool.{Bool, true, false}
+use mathlib.Core.List.{List}
+use Prim.Native.Nat.{ℕ, _+_, _-_, _/_, _≤_}
 use native.Mathlib.Omega.{arith}
-use lib.Dec.{eqb}
+use borrow.Author.Needs.{needs}
 use Rattle.octets.specs.Number.{part}
-use Rattle.octets.specs.Buffer.{allZero}
-use Rattle.octets.proofs.Zero.{gather-more, gather-all}
+use Rattle.octets.specs.Buffer.{allZero, fourZero}
+use Rattle.octets.proofs.Tests.{denied, granted}
+use Rattle.octets.proofs.Zero.{allZero-five}
 use Rattle.octets.proofs.all_zero.Statement.{statement}
 use Rattle.octets.proofs.all_zero.Tie as tie
 
-abbrev Inv-loop : tie.InvT-loop
-Inv-loop s from to any₀ i₀ any i = (i ≤ to) × (allZero (part from (to - from) s) ≡ (eqb any 0 && allZero (part i (to - i) s)))
+-- the stretch from a up to f, whose first four quarters are told
+module _ (s : List ℕ) (a f : ℕ) (h : a ≤ f) where
+  abbrev second : ℕ
+  second = a + (f - a) / 4
 
-abbrev μ-loop : tie.MeasureT-loop
-μ-loop s from to any₀ i₀ any i = to - i
+  abbrev third : ℕ
+  third = second + (f - a) / 4
 
-loop-holds : tie.Need-loop-holds Inv-loop μ-loop
-loop-holds c = (omega arith, refl)
+  abbrev fourth : ℕ
+  fourth = third + (f - a) / 4
 
-shared-slice-read-any : tie.Need-shared-slice-read-any Inv-loop μ-loop
-shared-slice-read-any c = omega arith
+  abbrev end : ℕ
+  end = fourth + (f - a) / 4
 
-add-i : tie.Need-add-i Inv-loop μ-loop
-add-i c = omega arith
+  abbrev quarters : Bool
+  quarters = fourZero (part a (second - a) s) (part second (third - second) s) (part third (fourth - third) s) (part fourth (end - fourth) s)
 
-loop-less : tie.Need-loop-less Inv-loop μ-loop
-loop-less c = omega arith
+  spoilt : quarters ≡ false → allZero (part a (f - a) s) ≡ false
+  spoilt e =
+      allZero-five s a second third fourth end f (omega arith) (omega arith) (omega arith) (omega arith) (omega arith) ∙ rw e
 
-loop-again : tie.Need-loop-again Inv-loop μ-loop
-loop-again c =
-    let t = c .before in
-    let a = t .before .before .args in
-    (omega arith, gather-more (a .s .now) (a .to) _ (t .before .loop .any) _ (t .before .loop .inv .1) (t .loop-test .taken) (omega arith))
+  blank : quarters ≡ true → allZero (part a (f - a) s) ≡ allZero (part end (f - end) s)
+  blank e =
+      allZero-five s a second third fourth end f (omega arith) (omega arith) (omega arith) (omega arith) (omega arith) ∙ rw e
 
-returns : tie.Need-returns Inv-loop μ-loop
+sub-quarter : tie.Need-sub-quarter
+sub-quarter c = search needs
+
+add-second : tie.Need-add-second
+add-second c = search needs
+
+add-third : tie.Need-add-third
+add-third c = search needs
+
+add-fourth : tie.Need-add-fourth
+add-fourth c = search needs
+
+add-end : tie.Need-add-end
+add-end c = search needs
+
+sub-four-zero : tie.Need-sub-four-zero
+sub-four-zero c = search needs
+
+part-four-zero-start : tie.Need-part-four-zero-start
+part-four-zero-start c = search needs
+
+part-four-zero-end : tie.Need-part-four-zero-end
+part-four-zero-end c = search needs
+
+sub-four-zero-2 : tie.Need-sub-four-zero-2
+sub-four-zero-2 c = search needs
+
+part-four-zero-start-2 : tie.Need-part-four-zero-start-2
+part-four-zero-start-2 c = search needs
+
+part-four-zero-end-2 : tie.Need-part-four-zero-end-2
+part-four-zero-end-2 c = search needs
+
+sub-four-zero-3 : tie.Need-sub-four-zero-3
+sub-four-zero-3 c = search needs
+
+part-four-zero-start-3 : tie.Need-part-four-zero-start-3
+part-four-zero-start-3 c = search needs
+
+part-four-zero-end-3 : tie.Need-part-four-zero-end-3
+part-four-zero-end-3 c = search needs
+
+sub-four-zero-4 : tie.Need-sub-four-zero-4
+sub-four-zero-4 c = search needs
+
+part-four-zero-start-4 : tie.Need-part-four-zero-start-4
+part-four-zero-start-4 c = search needs
+
+part-four-zero-end-4 : tie.Need-part-four-zero-end-4
+part-four-zero-end-4 c = search needs
+
+four-zero-requires : tie.Need-four-zero-requires
+four-zero-requires c κs = search needs
+
+returns : tie.Need-returns
 returns c =
-    let a = c .before .before .args in
-    gather-all (a .s .now) (a .to) _ (c .before .loop .any) _ (c .before .loop .inv .1) (c .loop-test .left)
+    let a = c .before .before .before .before .before .before .before .args in
+    sym (spoilt (a .s .now) (a .from) (a .to) (omega arith) (search denied))
+
+run-zero-requires : tie.Need-run-zero-requires
+run-zero-requires c κs = search needs
+
+returns-2 : tie.Need-returns-2
+returns-2 c =
+    let a = c .before .before .before .before .before .before .before .before .args in
+    c .run-zero .ensures ∙ sym (blank (a .s .now) (a .from) (a .to) (omega arith) (search granted))
 
 pub all-zero-spec : {M : Type 1} → statement M
 all-zero-spec =
     tie.close
-    (tie.spec Inv-loop μ-loop loop-holds shared-slice-read-any add-i loop-less loop-again returns)
+    (tie.spec
+    sub-quarter
+    add-second
+    add-third
+    add-fourth
+    add-end
+    sub-four-zero
+    part-four-zero-start
+    part-four-zero-end
+    sub-four-zero-2
+    part-four-zero-start-2
+    part-four-zero-end-2
+    sub-four-zero-3
+    part-four-zero-start-3
+    part-four-zero-end-3
+    sub-four-zero-4
+    part-four-zero-start-4
+    part-four-zero-end-4
+    four-zero-requires
+    returns
+    run-zero-requires
+    returns-2)

@@ -5,12 +5,12 @@ use borrow.Author.Needs.{needs}
 use borrow.Author.Tests.{ne-eqb}
 use Rattle.octets.proofs.Tests.{tests, denied, granted}
 use Rattle.transport.specs.Shape.{begunOf}
-use Rattle.transport.proofs.Begins.{Ready, length-wrong, shape-decides}
+use Rattle.transport.proofs.Begins.{LengthRight, length-wrong, shape-decides}
 use Rattle.transport.proofs.begin.Statement.{statement}
 use Rattle.transport.proofs.begin.Tie as tie
 
 -- past the test of the length
-ready : (c : tie.Else2) → Ready (c .before .before .before .before .before .args .«data» .now) (c .before .before .read .result)
+ready : (c : tie.Else2) → LengthRight (c .before .before .before .before .before .args .«data» .now) (c .before .before .read .result)
 ready c = record {
   long = omega arith;
   is = c .before .before .read .ensures;
