@@ -22,7 +22,7 @@ use Rattle.frame.specs.declared.Watch.{Watch}
 use Rattle.frame.specs.declared.Watch.the-variants.{Desk, NotWatched}
 use Rattle.frame.specs.Kinds.{deskOf}
 use Rattle.frame.specs.Header.{marker, startsWith, derandomised, frameOf, pointerMeaning}
-use Rattle.frame.specs.Refusals.{framed, pointed, watchedBy, examinedHeader, examined}
+use Rattle.frame.specs.Refusals.{sizedAndMarked, pointed, watchedBy, examinedHeader, examined}
 use Rattle.frame.proofs.Fields.{bounded}
 use Rattle.frame.proofs.Framing.{framed-is, is-framed}
 use Rattle.frame.proofs.Pointers.{allowed-pointer}
@@ -42,9 +42,9 @@ abbrev Numbered : Examined → Type 0
 Numbered (Refused n) = (3 ≤ n) × (n ≤ 9)
 Numbered (Good a) = Unit
 
--- what is handed on of a header, for desk d
-abbrev handed : ℕ → Frame → Accepted
-handed d h = record { desk = d; counter = h .counter; pointer = h .pointer }
+-- what is handed on of a header, for desk d, by what its pointer means
+abbrev handed : ℕ → Frame → Pointer → Accepted
+handed d h p = record { desk = d; counter = h .counter; pointer = p }
 
 -- the header h is taken, and a is what is handed on of it
 pub record Accepts (craft : ℕ) (watched : List Channel) (h : Frame) (a : Accepted) : Type 0 where
@@ -54,7 +54,7 @@ pub record Accepts (craft : ℕ) (watched : List Channel) (h : Frame) (a : Accep
   pub desk : deskOf watched (h .channel) ≡ Desk (a .desk)
   pub allowed : pointerMeaning (h .pointer) ≡ pointer.Refused → ⊥
   pub counter : a .counter ≡ h .counter
-  pub pointer : a .pointer ≡ h .pointer
+  pub pointer : a .pointer ≡ pointerMeaning (h .pointer)
 
 module _ (craft : ℕ) (watched : List Channel) (h : Frame) where
   pub other-version : (h .version ≡ 1 → ⊥) → examinedHeader craft watched h ≡ Refused 5
@@ -81,7 +81,7 @@ module _ (craft : ℕ) (watched : List Channel) (h : Frame) where
         unfolding examinedHeader
         pointer-refused d w p = rw (eq-eqb _ _ v, eq-eqb _ _ s, ne-eqb _ _ f, w, p)
 
-  pointed-good : (d : ℕ) (p : Pointer) → (p ≡ pointer.Refused → ⊥) → pointed d h p ≡ Good (handed d h)
+  pointed-good : (d : ℕ) (p : Pointer) → (p ≡ pointer.Refused → ⊥) → pointed d h p ≡ Good (handed d h p)
   pointed-good d (pointer.Offset q) n = refl
   pointed-good d pointer.NoStart n = refl
   pointed-good d pointer.Refused n = absurd (n refl)
@@ -106,7 +106,7 @@ module _ (craft : ℕ) (watched : List Channel) (h : Frame) where
       seated v s f NotWatched w g = absurd (never g)
       seated v s f (Desk d) w g =
           let allowed : pointerMeaning (h .pointer) ≡ pointer.Refused → ⊥ = λ r. never (sym (ap (pointed d h) r) ∙ g) in
-          let same : a ≡ handed d h = cc (pointed-good d (pointerMeaning (h .pointer)) allowed) in
+          let same : a ≡ handed d h (pointerMeaning (h .pointer)) = cc (pointed-good d (pointerMeaning (h .pointer)) allowed) in
           record {
             version = v;
             spacecraft = s;
@@ -151,14 +151,14 @@ module _ (craft : ℕ) (watched : List Channel) (f : List ℕ) where
   unfolding examined
   other-marker s m = rw (eq-eqb _ _ s, m)
 
-  pub of-header : framed f ≡ true → examined craft watched f ≡ examinedHeader craft watched (frameOf (derandomised f))
+  pub of-header : sizedAndMarked f ≡ true → examined craft watched f ≡ examinedHeader craft watched (frameOf (derandomised f))
   unfolding examined
   of-header e =
       let t = framed-is f e in
       rw (eq-eqb _ _ (t .0), t .1)
 
   module _ (a : Accepted) (e : examined craft watched f ≡ Good a) where
-    pub good-framed : framed f ≡ true
+    pub good-framed : sizedAndMarked f ≡ true
     unfolding examined
     good-framed =
         let s = passed (not (eqb (length f) 1024)) 3 _ e in
@@ -174,5 +174,5 @@ module _ (craft : ℕ) (watched : List Channel) (f : List ℕ) where
     pub counter-good : a .counter .0 < 0x1000000
     counter-good = rw (good-header .counter) (bounded (derandomised f) .counter)
 
-    pub pointer-good : (a .pointer < 884) ⊎ (a .pointer ≡ 2047)
-    pointer-good = rw (good-header .pointer) (allowed-pointer _ (good-header .allowed))
+    pub pointer-good : (frameOf (derandomised f) .pointer < 884) ⊎ (frameOf (derandomised f) .pointer ≡ 2047)
+    pointer-good = allowed-pointer _ (good-header .allowed)

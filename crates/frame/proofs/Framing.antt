@@ -8,7 +8,7 @@ use borrow.Author.Tests.{eq-eqb, ne-eqb, eqb-true}
 use lib.Dec.{eqb}
 use lib.ListN.{length, getD}
 use Rattle.frame.specs.Header.{marker, startsWith, derandomised}
-use Rattle.frame.specs.Refusals.{framed, plainAfter}
+use Rattle.frame.specs.Refusals.{sizedAndMarked, plainAfter}
 
 -- the marker, octet by octet
 pub marker-octets : (f : List ℕ) → 4 ≤ length f
@@ -25,29 +25,29 @@ both true b e = (refl, e)
 both false b e = absurd (false≢true e)
 
 module _ (f : List ℕ) where
-  pub framed-is : framed f ≡ true → (length f ≡ 1024) × (startsWith marker f ≡ true)
-  unfolding framed
+  pub framed-is : sizedAndMarked f ≡ true → (length f ≡ 1024) × (startsWith marker f ≡ true)
+  unfolding sizedAndMarked
   framed-is e =
       let t = both (eqb (length f) 1024) (startsWith marker f) e in
       (eqb-true _ _ (t .0), t .1)
 
-  pub is-framed : length f ≡ 1024 → startsWith marker f ≡ true → framed f ≡ true
-  unfolding framed
+  pub is-framed : length f ≡ 1024 → startsWith marker f ≡ true → sizedAndMarked f ≡ true
+  unfolding sizedAndMarked
   is-framed s m = rw (eq-eqb _ _ s, m)
 
-  pub missized : (length f ≡ 1024 → ⊥) → framed f ≡ false
-  unfolding framed
+  pub missized : (length f ≡ 1024 → ⊥) → sizedAndMarked f ≡ false
+  unfolding sizedAndMarked
   missized n = rw (ne-eqb _ _ n)
 
-  pub unmarked : length f ≡ 1024 → startsWith marker f ≡ false → framed f ≡ false
-  unfolding framed
+  pub unmarked : length f ≡ 1024 → startsWith marker f ≡ false → sizedAndMarked f ≡ false
+  unfolding sizedAndMarked
   unmarked s m = rw (eq-eqb _ _ s, m)
 
   module _ (before : List ℕ) where
-    pub plain-framed : framed f ≡ true → plainAfter f before ≡ derandomised f
+    pub plain-framed : sizedAndMarked f ≡ true → plainAfter f before ≡ derandomised f
     unfolding plainAfter
     plain-framed e = rw e
 
-    pub plain-unframed : framed f ≡ false → plainAfter f before ≡ before
+    pub plain-unframed : sizedAndMarked f ≡ false → plainAfter f before ≡ before
     unfolding plainAfter
     plain-unframed e = rw e

@@ -10,7 +10,7 @@ use Rattle.octets.proofs.Lists.{whole-part, if-cases}
 use Rattle.noise.specs.Noise.{mixed}
 use Rattle.noise.proofs.Mixing.{length-mixed}
 use Rattle.frame.specs.Header.{derandomised, zoneOf}
-use Rattle.frame.specs.Refusals.{framed, plainAfter}
+use Rattle.frame.specs.Refusals.{sizedAndMarked, plainAfter}
 use Rattle.frame.proofs.Framing.{framed-is}
 
 -- what is coded is all that stands behind the marker
@@ -29,4 +29,4 @@ length-zone plain h = whole-part plain 8 884 (omega arith)
 pub length-plain : (f before : List ℕ) → length before ≡ 1020 → length (plainAfter f before) ≡ 1020
 unfolding plainAfter
 length-plain f before h =
-    if-cases (λ (xs : List ℕ). length xs ≡ 1020) (framed f) (λ e. length-derandomised f (framed-is f e .0)) (λ e. h)
+    if-cases (λ (xs : List ℕ). length xs ≡ 1020) (sizedAndMarked f) (λ e. length-derandomised f (framed-is f e .0)) (λ e. h)

@@ -17,13 +17,13 @@ use Rattle.frame.specs.Kinds.{deskOf}
 use Rattle.frame.specs.Header.{marker, startsWith, derandomised, frameOf, pointerMeaning}
 
 -- "3 / 4: frame not 1,024 octets / marker differs"
-unfoldable pub framed : List ℕ → Bool
-framed f = eqb (length f) 1024 && startsWith marker f
+unfoldable pub sizedAndMarked : List ℕ → Bool
+sizedAndMarked f = eqb (length f) 1024 && startsWith marker f
 
--- "9: pointer 884 to 2046"
+-- "9: pointer 884 to 2046". Behind this the pointer is what it means.
 abbrev pub pointed : ℕ → Frame → Pointer → Examined
-pointed d h (pointer.Offset p) = Good (record { desk = d; counter = h .counter; pointer = h .pointer })
-pointed d h pointer.NoStart = Good (record { desk = d; counter = h .counter; pointer = h .pointer })
+pointed d h (pointer.Offset p) = Good (record { desk = d; counter = h .counter; pointer = pointer.Offset p })
+pointed d h pointer.NoStart = Good (record { desk = d; counter = h .counter; pointer = pointer.NoStart })
 pointed d h pointer.Refused = Refused 9
 
 -- "7 / 8: channel 63 (fill) / channel not watched"
@@ -47,4 +47,4 @@ examined craft watched f =
 
 -- the scratch octets for the derandomised frame: written if the frame has its size and its marker
 unfoldable pub plainAfter : List ℕ → List ℕ → List ℕ
-plainAfter f before = if framed f then derandomised f else before
+plainAfter f before = if sizedAndMarked f then derandomised f else before

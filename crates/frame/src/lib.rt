@@ -169,11 +169,11 @@ pub fn desk_of(watched: [Channel; Channel::MOST], n: u8, channel: Channel) -> Wa
     Watch::NotWatched
 }
 
-// A frame that is not refused: its desk, its counter and its pointer.
+// A frame that is not refused: its desk, its counter and what its pointer says.
 pub struct Accepted {
     pub desk: usize,
     pub counter: Counter,
-    pub pointer: u16,
+    pub pointer: Pointer,
 }
 
 pub enum Examined {
@@ -213,7 +213,7 @@ pub fn examine_header(
     Examined::Good(Accepted {
         desk: desk,
         counter: counter,
-        pointer: h.pointer,
+        pointer: p,
     })
 }
 

@@ -6,9 +6,9 @@ use Prim.Native.Nat.{ℕ}
 use lib.Dec.{eqb}
 use lib.ListN.{replicate}
 use Rattle.octets.specs.Each.{each}
-use Rattle.octets.specs.Number.{number, numberAt}
-use Rattle.records.specs.Table.{lengthOf}
-use Rattle.records.specs.Records.{recordAt, isCut, after, recordsFrom, records, seenIn, recordsSay, octetsFor, headerSays, nth, placeOf}
+use Rattle.octets.specs.Number.{number, numberAt, roundedUp}
+use Rattle.records.specs.Table.{fixedTypes, lengthOf}
+use Rattle.records.specs.Records.{recordAt, isCut, after, recordsFrom, records, seenIn, recordsSay, headerSays, nth, placeOf}
 use Rattle.records.specs.Reader.{primaryOf, imageAt, segmentAt, imageOf, navigationOf, nameOf, timeOf, segmentOf, fieldsOf, refusedHeader, readHeader, readRecord, headerNumber}
 use Rattle.records.specs.Together.{Accepted}
 use Rattle.records.specs.declared.HeaderAnswer.{HeaderAnswer}
@@ -30,12 +30,12 @@ alone = opening 0 16 16 0
 abbrev picture : List ℕ
 picture = opening 0 16 32 12 ++ (1 ∷ 0 ∷ 9 ∷ 8 ∷ 2 ∷ 3 ∷ 0 ∷ 4 ∷ 0 ∷ []) ++ (128 ∷ 0 ∷ 7 ∷ 1 ∷ 2 ∷ 0 ∷ 5 ∷ []) ++ (170 ∷ 176 ∷ [])
 
-pub accepted-alone : Accepted alone
-unfolding headerSays records recordsFrom recordAt isCut after recordsSay seenIn octetsFor lengthOf numberAt number
+pub accepted-alone : Accepted fixedTypes alone
+unfolding headerSays records recordsFrom recordAt isCut after recordsSay seenIn roundedUp lengthOf numberAt number
 accepted-alone = refl
 
-pub accepted-picture : Accepted picture
-unfolding headerSays records recordsFrom recordAt isCut after recordsSay seenIn octetsFor lengthOf numberAt number
+pub accepted-picture : Accepted fixedTypes picture
+unfolding headerSays records recordsFrom recordAt isCut after recordsSay seenIn roundedUp lengthOf numberAt number
 accepted-picture = refl
 
 -- what the reader gives of the second
@@ -51,15 +51,15 @@ pub picture-read : _≡_ {A = HeaderAnswer} (readHeader picture)
           });
       name = replicate 32 0;
     })
-unfolding headerSays records recordsFrom recordAt isCut after recordsSay seenIn octetsFor lengthOf numberAt number placeOf primaryOf imageAt segmentAt imageOf navigationOf nameOf timeOf segmentOf fieldsOf readHeader
+unfolding headerSays records recordsFrom recordAt isCut after recordsSay seenIn roundedUp lengthOf numberAt number placeOf primaryOf imageAt segmentAt imageOf navigationOf nameOf timeOf segmentOf fieldsOf readHeader
 picture-read = refl
 
 pub picture-last : readRecord picture 2 ≡ Found (record { kind = 128; place = 25; length = 7 })
-unfolding headerSays records recordsFrom recordAt isCut after recordsSay seenIn octetsFor lengthOf numberAt number nth readRecord
+unfolding headerSays records recordsFrom recordAt isCut after recordsSay seenIn roundedUp lengthOf numberAt number nth readRecord
 picture-last = refl
 
 pub picture-none : readRecord picture 3 ≡ Refused 27
-unfolding headerSays records recordsFrom recordAt isCut after recordsSay seenIn octetsFor lengthOf numberAt number nth readRecord
+unfolding headerSays records recordsFrom recordAt isCut after recordsSay seenIn roundedUp lengthOf numberAt number nth readRecord
 picture-none = refl
 
 -- a text file that is all header, with nothing but its primary record
@@ -75,7 +75,7 @@ pub alone-read : _≡_ {A = HeaderAnswer} (readHeader (0 ∷ 0 ∷ 16 ∷ 2 ∷ 
           });
       name = replicate 32 0;
     })
-unfolding headerSays records recordsFrom recordAt isCut after recordsSay seenIn octetsFor lengthOf numberAt number placeOf primaryOf imageAt segmentAt imageOf navigationOf nameOf timeOf segmentOf fieldsOf readHeader
+unfolding headerSays records recordsFrom recordAt isCut after recordsSay seenIn roundedUp lengthOf numberAt number placeOf primaryOf imageAt segmentAt imageOf navigationOf nameOf timeOf segmentOf fieldsOf readHeader
 alone-read = refl
 
 -- a file of one octet
@@ -118,5 +118,5 @@ cases =
     ∷ []
 
 pub answered-right : each (λ (c : Case). eqb (headerNumber (readHeader (c .file) .read)) (c .answer)) cases ≡ true
-unfolding headerSays records recordsFrom recordAt isCut after recordsSay seenIn octetsFor lengthOf numberAt number placeOf primaryOf imageAt segmentAt imageOf navigationOf nameOf timeOf segmentOf fieldsOf readHeader each
+unfolding headerSays records recordsFrom recordAt isCut after recordsSay seenIn roundedUp lengthOf numberAt number placeOf primaryOf imageAt segmentAt imageOf navigationOf nameOf timeOf segmentOf fieldsOf readHeader each
 answered-right = refl

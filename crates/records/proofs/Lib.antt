@@ -10,5 +10,6 @@ pub mod Passing
 pub mod Answering
 pub mod Said
 pub mod Together
+pub mod Plainly
 pub mod Placing
 pub mod Examples

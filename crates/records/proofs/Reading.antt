@@ -17,7 +17,8 @@ numberAt-rest xs at v w h k =
     ap number (take-all v (drop at xs) (omega (arith, length-drop at xs)) ∙ sym (take-all w (drop at xs) (omega (arith, length-drop at xs))))
 
 module _ (header : List ℕ) (at n : ℕ) (h : at < length header) where
-  pub record-whole : n ≡ numberAt header (at + 1) 2 → _≡_ {A = Record} (record { kind = getD header at 0; place = at; length = n }) (recordAt header at)
+  pub record-whole : n ≡ numberAt header (at + 1) 2
+      → _≡_ {A = Record} (record { kind = getD header at 0; place = at; length = n }) (recordAt header at)
   unfolding recordAt
   record-whole e = λ i. record { kind = sym (numberAt-one header at h) i; place = at; length = e i }
 

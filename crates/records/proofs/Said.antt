@@ -7,6 +7,7 @@ use native.Mathlib.Omega.{arith}
 use borrow.Author.Tests.{leb-true, leb-false, eqb-true}
 use lib.Dec.{leb, eqb}
 use lib.ListN.{length, getD, replicate}
+use lib.Seq.{length-take-le}
 use Rattle.octets.specs.Number.{numberAt}
 use Rattle.octets.specs.Reasons.{decided}
 use Rattle.octets.specs.Reasons.Reason.{_when_}
@@ -30,19 +31,18 @@ use Rattle.records.specs.declared.RecordAnswer.{RecordAnswer}
 use Rattle.records.specs.declared.RecordAnswer.the-variants as answer
 use Rattle.records.proofs.Walk.{begin, found}
 use Rattle.records.proofs.Finding.{place-here}
-use Rattle.records.proofs.Passing.{Accepts, accepts}
-use Rattle.records.proofs.Answering.{header-length}
+use Rattle.records.proofs.Passing.{Whole, accepts}
 
 -- the primary record is the first of its type, at place 0
-primary-first : (file : List ℕ) → Accepts file → placeOf 0 (records (headerOf file)) ≡ At 0
+primary-first : (file : List ℕ) → Whole file → placeOf 0 (records (headerOf file)) ≡ At 0
 unfolding recordAt
-primary-first file a =
+primary-first file w =
     let header = headerOf file in
     let end = fieldOf file 0 headerLength in
     let kind : numberAt header 0 1 ≡ 0 =
-    numberAt-part file 0 end 0 1 (omega (arith, a .head .least))
-    ∙ eqb-true (numberAt file 0 1) 0 (and-left (eqb (numberAt file 0 1) 0) (eqb (numberAt file 1 2) 16) (a .head .starts)) in
-    found (begin header (placeOf 0)) refl (omega (arith, header-length file a, a .head .least)) (At 0)
+    numberAt-part file 0 end 0 1 (omega (arith, w .least))
+    ∙ eqb-true (numberAt file 0 1) 0 (and-left (eqb (numberAt file 0 1) 0) (eqb (numberAt file 1 2) 16) (w .starts)) in
+    found (begin header (placeOf 0)) refl (omega (arith, length-take-le end file (w .within), w .least)) (At 0)
     (λ rs. place-here (recordAt header 0) rs 0 kind)
 
 -- what is made of a record that is there, or of its absence
@@ -86,18 +86,18 @@ module _ (xs : List ℕ) where
   unfolding segmentOf segmentAt
   segment-row = row segmentSaid (λ p. refl) refl (placeOf 128 (records xs))
 
-fields-said : (file : List ℕ) → Accepts file → headerSaid (fieldsOf (headerOf file)) ≡ says 0 (map (rowOf (headerOf file)) fixedTypes)
+fields-said : (file : List ℕ) → Whole file → headerSaid (fieldsOf (headerOf file)) ≡ says 0 (map (rowOf (headerOf file)) fixedTypes)
 unfolding headerSaid fieldsOf
-fields-said file a =
+fields-said file w =
     let xs = headerOf file in
-    λ i. says 0 (primary-row xs (primary-first file a) i ∷ image-row xs i ∷ navigation-row xs i ∷ time-row xs i ∷ segment-row xs i ∷ [])
+    λ i. says 0 (primary-row xs (primary-first file w) i ∷ image-row xs i ∷ navigation-row xs i ∷ time-row xs i ∷ segment-row xs i ∷ [])
 
 pub header-said : (file : List ℕ) → headerSaid (readHeader file) ≡ headerGives file
 unfolding readHeader headerGives headerSaid
 header-said file =
     let given = says 0 (map (rowOf (headerOf file)) fixedTypes) in
-    decided-cases (λ (r : HeaderAnswer). headerSaid r ≡ decided (headerSays file) given refused) (headerSays file)
-    (λ none. fields-said file (accepts file none) ∙ sym (none-decided given refused (headerSays file) none))
+    decided-cases (λ (r : HeaderAnswer). headerSaid r ≡ decided (headerSays fixedTypes file) given refused) (headerSays fixedTypes file)
+    (λ none. fields-said file (accepts fixedTypes file none .head) ∙ sym (none-decided given refused (headerSays fixedTypes file) none))
     (λ n first. sym (first-decided given refused first))
 
 -- what a caller is promised of an answer: all of it, and what it says
@@ -126,9 +126,9 @@ record-said file n =
     let asked : recordSaid (nth rs n) ≡ decided ((27 when leb (length rs) n) ∷ []) given refused =
     if-cases (λ (x : Said). recordSaid (nth rs n) ≡ x) (leb (length rs) n)
     (λ e. nth-beyond rs n (leb-true (length rs) n e)) (λ e. nth-within rs n other (leb-false (length rs) n e)) in
-    decided-map recordSaid (headerSays file) (nth rs n) answer.Refused
-    ∙ ap (λ (x : Said). decided (headerSays file) x refused) asked
-    ∙ sym (decided-append given refused (headerSays file) ((27 when leb (length rs) n) ∷ []))
+    decided-map recordSaid (headerSays fixedTypes file) (nth rs n) answer.Refused
+    ∙ ap (λ (x : Said). decided (headerSays fixedTypes file) x refused) asked
+    ∙ sym (decided-append given refused (headerSays fixedTypes file) ((27 when leb (length rs) n) ∷ []))
 
 pub record-told : (file : List ℕ) (n : ℕ) {r : RecordAnswer} → r ≡ readRecord file n
     → (r ≡ readRecord file n) × (recordSaid r ≡ recordGives file n)

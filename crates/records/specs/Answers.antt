@@ -114,10 +114,12 @@ rowOf header t = ifThere (λ p. there (map (valueOf header p) (t .fields))) abse
 
 -- "The answer holds the fixed fields or their absence"
 unfoldable pub headerGives : List ℕ → Said
-headerGives file = decided (headerSays file) (says 0 (map (rowOf (headerOf file)) fixedTypes)) refused
+headerGives file = decided (headerSays fixedTypes file) (says 0 (map (rowOf (headerOf file)) fixedTypes)) refused
 
 -- "asked for record n, from 0, the reader gives its type, place and length, or 27": "no header record of the number asked for"
 unfoldable pub recordGives : List ℕ → ℕ → Said
 recordGives file n =
     let rs : List Record = records (headerOf file) in
-    decided (headerSays file ++ (27 when leb (length rs) n) ∷ []) (says 0 (foundSaid (getD rs n (recordAt (headerOf file) 0)) ∷ [])) refused
+    decided (headerSays fixedTypes file ++ (27 when leb (length rs) n) ∷ [])
+    (says 0 (foundSaid (getD rs n (recordAt (headerOf file) 0)) ∷ []))
+    refused

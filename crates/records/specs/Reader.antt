@@ -7,7 +7,7 @@ use lib.ListN.{length, replicate}
 use Rattle.octets.specs.Number.{part, signed}
 use Rattle.octets.specs.Reasons.{decided}
 use Rattle.records.specs.Table as table
-use Rattle.records.specs.Table.{Field}
+use Rattle.records.specs.Table.{Field, FixedType, fixedTypes}
 use Rattle.records.specs.Records.{fieldOf, headerOf, records, recordByRecord, headerSays, nth, placeOf}
 use Rattle.records.specs.declared.Primary.{Primary}
 use Rattle.records.specs.declared.Image.{Image}
@@ -31,10 +31,14 @@ use Rattle.records.specs.declared.Judged.the-variants.{Good, Refused}
 use Rattle.records.specs.declared.Stands.{Stands}
 use Rattle.records.specs.declared.Stands.the-variants.{At, Nowhere}
 
--- a header that has its primary record whole, and of whose records none is refused
-pub record Fine (header : List ℕ) : Type 0 where
+-- a header that has its primary record whole, and of whose records none is refused by a table of fixed types
+pub record Fine (types : List FixedType) (header : List ℕ) : Type 0 where
   pub long : 16 ≤ length header
-  pub good : decided (recordByRecord header) Good Refused ≡ Good
+  pub good : decided (recordByRecord types header) Good Refused ≡ Good
+
+-- a place at which the header has so many octets of the record
+abbrev pub StandsWhole : ℕ → List ℕ → Stands → Type 0
+StandsWhole size header s = (p : ℕ) → s ≡ At p → p + size ≤ length header
 
 -- the fields of each fixed type, in a record that begins at a place
 unfoldable pub primaryOf : List ℕ → Primary
@@ -87,21 +91,37 @@ abbrev pub ifThere : {A : Type 0} → (ℕ → A) → A → Stands → A
 ifThere there absent (At p) = there p
 ifThere there absent Nowhere = absent
 
-unfoldable pub imageOf : List ℕ → ImageStructure
-imageOf xs = ifThere (λ p. image.There (imageAt xs p)) image.Absent (placeOf 1 (records xs))
+abbrev pub imageIf : List ℕ → Stands → ImageStructure
+imageIf xs = ifThere (λ p. image.There (imageAt xs p)) image.Absent
 
-unfoldable pub navigationOf : List ℕ → ImageNavigation
-navigationOf xs = ifThere (λ p. navigation.There (navigationAt xs p)) navigation.Absent (placeOf 2 (records xs))
+abbrev pub navigationIf : List ℕ → Stands → ImageNavigation
+navigationIf xs = ifThere (λ p. navigation.There (navigationAt xs p)) navigation.Absent
 
 -- the 32 octets of the name, which the navigation enum cannot hold; zeros beside an absent one
+abbrev pub nameIf : List ℕ → Stands → List ℕ
+nameIf xs = ifThere (nameAt xs) (replicate 32 0)
+
+abbrev pub timeIf : List ℕ → Stands → TimeStamp
+timeIf xs = ifThere (λ p. time.There (timeAt xs p)) time.Absent
+
+abbrev pub segmentIf : List ℕ → Stands → ImageSegment
+segmentIf xs = ifThere (λ p. segment.There (segmentAt xs p)) segment.Absent
+
+-- each at the first record of its type
+unfoldable pub imageOf : List ℕ → ImageStructure
+imageOf xs = imageIf xs (placeOf 1 (records xs))
+
+unfoldable pub navigationOf : List ℕ → ImageNavigation
+navigationOf xs = navigationIf xs (placeOf 2 (records xs))
+
 unfoldable pub nameOf : List ℕ → List ℕ
-nameOf xs = ifThere (nameAt xs) (replicate 32 0) (placeOf 2 (records xs))
+nameOf xs = nameIf xs (placeOf 2 (records xs))
 
 unfoldable pub timeOf : List ℕ → TimeStamp
-timeOf xs = ifThere (λ p. time.There (timeAt xs p)) time.Absent (placeOf 5 (records xs))
+timeOf xs = timeIf xs (placeOf 5 (records xs))
 
 unfoldable pub segmentOf : List ℕ → ImageSegment
-segmentOf xs = ifThere (λ p. segment.There (segmentAt xs p)) segment.Absent (placeOf 128 (records xs))
+segmentOf xs = segmentIf xs (placeOf 128 (records xs))
 
 -- "The answer holds the fixed fields or their absence"
 unfoldable pub fieldsOf : List ℕ → HeaderAnswer
@@ -124,11 +144,11 @@ refusedHeader n = record { read = header.Refused n; name = replicate 32 0 }
 
 -- the fixed fields of a file's header, or the first number of 20 to 26 that applies
 unfoldable pub readHeader : List ℕ → HeaderAnswer
-readHeader file = decided (headerSays file) (fieldsOf (headerOf file)) refusedHeader
+readHeader file = decided (headerSays fixedTypes file) (fieldsOf (headerOf file)) refusedHeader
 
 -- record n of a file's header: the same refusals, then 27
 unfoldable pub readRecord : List ℕ → ℕ → RecordAnswer
-readRecord file n = decided (headerSays file) (nth (records (headerOf file)) n) answer.Refused
+readRecord file n = decided (headerSays fixedTypes file) (nth (records (headerOf file)) n) answer.Refused
 
 -- the paper's numbers
 abbrev pub headerNumber : HeaderRead → ℕ

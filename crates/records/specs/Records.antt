@@ -1,14 +1,14 @@
 -- The records of a header, in order, and what is refused of them ("Header records", refusals 20 to 26). Assumes nothing.
 use mathlib.Core.Bool.{Bool, true, false, not, _&&_, _||_}
 use mathlib.Core.List.{List, [], _∷_, _++_}
-use Prim.Native.Nat.{ℕ, zero, suc, _+_, _/_, _%_}
+use Prim.Native.Nat.{ℕ, zero, suc, _+_}
 use lib.Dec.{ltb, eqb}
 use lib.ListN.{length, take}
 use Rattle.octets.specs.Choice.{if_then_else_}
-use Rattle.octets.specs.Number.{numberAt}
+use Rattle.octets.specs.Number.{numberAt, roundedUp}
 use Rattle.octets.specs.Reasons.{Reason}
 use Rattle.octets.specs.Reasons.Reason.{_when_}
-use Rattle.records.specs.Table.{Field, headerLength, dataBits, fixedTypes, lengthOf}
+use Rattle.records.specs.Table.{Field, FixedType, headerLength, dataBits, lengthOf}
 use Rattle.records.specs.declared.Record.{Record}
 use Rattle.records.specs.declared.TypeLength.{TypeLength}
 use Rattle.records.specs.declared.TypeLength.the-variants.{Fixed, Free}
@@ -47,7 +47,7 @@ recordsFrom (suc k) header at =
 unfoldable pub records : List ℕ → List Record
 records header = recordsFrom (length header) header 0
 
--- "24 / 25: fixed length wrong / fixed type seen twice"
+-- "24 / 25: fixed length wrong / fixed type seen twice", by whichever table of fixed types the reader has
 abbrev pub wrongLength : TypeLength → ℕ → Bool
 wrongLength (Fixed n) size = not (eqb size n)
 wrongLength Free size = false
@@ -56,13 +56,13 @@ abbrev pub isFixed : TypeLength → Bool
 isFixed (Fixed n) = true
 isFixed Free = false
 
-abbrev pub typeSays : ℕ → ℕ → Bool → List Reason
-typeSays kind size seen =
-    (24 when wrongLength (lengthOf fixedTypes kind) size) ∷ (25 when (isFixed (lengthOf fixedTypes kind) && seen)) ∷ []
+abbrev pub typeSays : List FixedType → ℕ → ℕ → Bool → List Reason
+typeSays types kind size seen =
+    (24 when wrongLength (lengthOf types kind) size) ∷ (25 when (isFixed (lengthOf types kind) && seen)) ∷ []
 
 -- 23 before both; seen tells whether the type was
-abbrev pub recordSays : ℕ → Bool → Record → List Reason
-recordSays end seen r = (23 when isCut end r) ∷ typeSays (r .kind) (r .length) seen
+abbrev pub recordSays : List FixedType → ℕ → Bool → Record → List Reason
+recordSays types end seen r = (23 when isCut end r) ∷ typeSays types (r .kind) (r .length) seen
 
 -- whether a type is among those of some records
 unfoldable pub seenIn : List Record → ℕ → Bool
@@ -70,17 +70,17 @@ seenIn [] kind = false
 seenIn (r ∷ rs) kind = eqb kind (r .kind) || seenIn rs kind
 
 -- "23, 24, 25 are tried record by record, in that order", with the records before each
-unfoldable pub recordsSay : ℕ → List Record → List Record → List Reason
-recordsSay end before [] = []
-recordsSay end before (r ∷ rs) = recordSays end (seenIn before (r .kind)) r ++ recordsSay end (r ∷ before) rs
+unfoldable pub recordsSay : List FixedType → ℕ → List Record → List Record → List Reason
+recordsSay types end before [] = []
+recordsSay types end before (r ∷ rs) = recordSays types end (seenIn before (r .kind)) r ++ recordsSay types end (r ∷ before) rs
 
 -- the same of a whole header
-abbrev pub recordByRecord : List ℕ → List Reason
-recordByRecord header = recordsSay (length header) [] (records header)
+abbrev pub recordByRecord : List FixedType → List ℕ → List Reason
+recordByRecord types header = recordsSay types (length header) [] (records header)
 
 -- "data field bits rounded up to octets"
-unfoldable pub octetsFor : ℕ → ℕ
-octetsFor bits = bits / 8 + (if eqb (bits % 8) 0 then 0 else 1)
+abbrev pub octetsFor : ℕ → ℕ
+octetsFor bits = roundedUp bits
 
 -- "26: lent octets not header length plus data field bits rounded up to octets"
 abbrev pub sizeSays : ℕ → ℕ → ℕ → List Reason
@@ -91,13 +91,13 @@ abbrev pub startsPrimary : List ℕ → Bool
 startsPrimary file = eqb (numberAt file 0 1) 0 && eqb (numberAt file 1 2) 16
 
 -- "20: header: fewer than 16 octets", 21, "22: header length under 16 or beyond the octets lent", then record by record, then 26
-unfoldable pub headerSays : List ℕ → List Reason
-headerSays file =
+unfoldable pub headerSays : List FixedType → List ℕ → List Reason
+headerSays types file =
     let end : ℕ = fieldOf file 0 headerLength in
     (20 when ltb (length file) 16)
     ∷ (21 when not (startsPrimary file))
     ∷ (22 when (ltb end 16 || ltb (length file) end))
-    ∷ recordByRecord (headerOf file) ++ sizeSays (length file) end (fieldOf file 0 dataBits)
+    ∷ recordByRecord types (headerOf file) ++ sizeSays (length file) end (fieldOf file 0 dataBits)
 
 -- "asked for record n, from 0, the reader gives its type, place and length, or 27"
 unfoldable pub nth : List Record → ℕ → RecordAnswer

@@ -8,15 +8,15 @@ use lib.Dec.{leb, ltb, eqb}
 use lib.ListN.{length, take}
 use Rattle.octets.specs.Choice.{if_then_else_}
 use Rattle.octets.specs.Reasons.{decided}
-use Rattle.records.specs.Table.{Field, FixedType, headerLength, dataBits, fixedTypes, lengthOf}
+use Rattle.records.specs.Table.{Field, FixedType, headerLength, dataBits, lengthOf}
 use Rattle.records.specs.Records.{fieldOf, headerOf, records, octetsFor, headerSays}
 use Rattle.records.specs.Reader.{readHeader, readRecord}
 use Rattle.records.specs.declared.Record.{Record}
 use Rattle.records.specs.declared.TypeLength.the-variants.{Fixed}
 
--- a file of whose header nothing is refused
-abbrev pub Accepted : List ℕ → Type 0
-Accepted file = decided (headerSays file) true (λ n. false) ≡ true
+-- a file of whose header nothing is refused by a table of fixed types
+abbrev pub Accepted : List FixedType → List ℕ → Type 0
+Accepted types file = decided (headerSays types file) true (λ n. false) ≡ true
 
 -- "Others follow up to the header length": from a place on each record begins where the one before it ends, and the last ends at the end
 pub data Cover (end : ℕ) : ℕ → List Record → Type 0 where
@@ -32,7 +32,7 @@ unfoldable pub howMany : (Record → Bool) → List Record → ℕ
 howMany test [] = 0
 howMany test (r ∷ rs) = (if test r then 1 else 0) + howMany test rs
 
-pub record Together (file : List ℕ) : Type 0 where
+pub record Together (types : List FixedType) (file : List ℕ) : Type 0 where
   -- the header lies within the file, and the data field fills the rest
   pub within : fieldOf file 0 headerLength ≤ length file
   pub filled : length file ≡ fieldOf file 0 headerLength + octetsFor (fieldOf file 0 dataBits)
@@ -40,8 +40,8 @@ pub record Together (file : List ℕ) : Type 0 where
   pub cover : Cover (fieldOf file 0 headerLength) 0 (records (headerOf file))
   pub one : (i : ℕ) → i < fieldOf file 0 headerLength → howMany (holdsOctet i) (records (headerOf file)) ≡ 1
   -- a fixed type is there once at most, with its length
-  pub once : (kind n : ℕ) → lengthOf fixedTypes kind ≡ Fixed n → howMany (λ r. eqb (r .kind) kind) (records (headerOf file)) ≤ 1
-  pub right : (kind n : ℕ) → lengthOf fixedTypes kind ≡ Fixed n
+  pub once : (kind n : ℕ) → lengthOf types kind ≡ Fixed n → howMany (λ r. eqb (r .kind) kind) (records (headerOf file)) ≤ 1
+  pub right : (kind n : ℕ) → lengthOf types kind ≡ Fixed n
       → howMany (λ r. eqb (r .kind) kind && eqb (r .length) n) (records (headerOf file)) ≡ howMany (λ r. eqb (r .kind) kind) (records (headerOf file))
 
 -- nothing of the data field but its length enters: a file of as many octets with the same header is answered the same

@@ -4,13 +4,12 @@
 // each answer is an equation over the list of the header's records (specs/Records.antt), and says the paper's number and values
 // (specs/Answers.antt); nothing is added that could wrap, whatever lengths the octets claim.
 ghost use mathlib.Core.Path.{_≡_};
-ghost use mathlib.Core.List.{[]};
-ghost use Prim.Native.Nat.{_+_, _^_, _≤_, _<_};
+ghost use Prim.Native.Nat.{_+_, _≤_, _<_};
 ghost use lib.ListN.{length};
 ghost use Rattle.octets.specs.Reasons.{decided};
 ghost use Rattle.records.specs.Table.{fixedTypes, lengthOf};
-ghost use Rattle.records.specs.Records.{recordAt, isCut, after, records, typeSays, recordSays, recordByRecord, octetsFor, sizeSays, headerSays, nth, placeOf};
-ghost use Rattle.records.specs.Reader.{Fine, primaryOf, imageAt, navigationAt, nameAt, timeAt, segmentAt, imageOf, navigationOf, nameOf, timeOf, segmentOf, fieldsOf, refusedHeader, readHeader, readRecord};
+ghost use Rattle.records.specs.Records.{recordAt, isCut, after, records, typeSays, recordSays, recordByRecord, sizeSays, headerSays, nth, placeOf};
+ghost use Rattle.records.specs.Reader.{Fine, StandsWhole, primaryOf, imageAt, navigationAt, nameAt, timeAt, segmentAt, imageIf, navigationIf, nameIf, timeIf, segmentIf, fieldsOf, refusedHeader, readHeader, readRecord};
 ghost use Rattle.records.specs.Answers.{headerSaid, recordSaid, headerGives, recordGives};
 
 // A record: its type, its place in the header, and its length.
@@ -223,7 +222,7 @@ fn next_place(r: Record, end: usize) -> usize
 
 // Refusals 24 and 25, for a record whose type was seen before or not.
 fn judge_type(kind: u8, size: usize, seen: bool) -> Judged
-    ensures { λ r. ⌜ r ≡ decided (typeSays kind size seen) Judged.Good Judged.Refused ⌝ }
+    ensures { λ r. ⌜ r ≡ decided (typeSays fixedTypes kind size seen) Judged.Good Judged.Refused ⌝ }
 {
     let fixed = type_length(kind);
     match fixed {
@@ -242,7 +241,7 @@ fn judge_type(kind: u8, size: usize, seen: bool) -> Judged
 
 fn judge_record(r: Record, end: usize, seen: bool) -> Judged
     requires { ⌜ r .place < end ⌝ }
-    ensures { λ j. ⌜ j ≡ decided (recordSays end seen r) Judged.Good Judged.Refused ⌝ }
+    ensures { λ j. ⌜ j ≡ decided (recordSays fixedTypes end seen r) Judged.Good Judged.Refused ⌝ }
 {
     if is_cut(r, end) {
         return Judged::Refused(23);
@@ -252,7 +251,7 @@ fn judge_record(r: Record, end: usize, seen: bool) -> Judged
 
 // "23, 24, 25 are tried record by record".
 fn judge_records(header: &[u8]) -> Judged
-    ensures { λ r. ⌜ r ≡ decided (recordByRecord (now (header .entry))) Judged.Good Judged.Refused ⌝ }
+    ensures { λ r. ⌜ r ≡ decided (recordByRecord fixedTypes (now (header .entry))) Judged.Good Judged.Refused ⌝ }
 {
     let mut seen = [false; 256];
     let mut at: usize = 0;
@@ -273,20 +272,10 @@ fn judge_records(header: &[u8]) -> Judged
     Judged::Good
 }
 
-// The octets that so many bits fill, rounded up. Nothing is added before the division, so nothing wraps.
-fn octets_for(bits: u64) -> u64
-    ensures { λ r. ⌜ (r ≡ octetsFor bits) × (r ≤ 2 ^ 61) ⌝ }
-{
-    if bits % 8 == 0 {
-        return bits / 8;
-    }
-    bits / 8 + 1
-}
-
 fn judge_size(lent: usize, end: u32, bits: u64) -> Judged
     ensures { λ r. ⌜ r ≡ decided (sizeSays lent end bits) Judged.Good Judged.Refused ⌝ }
 {
-    let wanted = end as u64 + octets_for(bits);
+    let wanted = end as u64 + octets::rounded_up(bits);
     if lent as u64 != wanted {
         return Judged::Refused(26);
     }
@@ -295,7 +284,7 @@ fn judge_size(lent: usize, end: u32, bits: u64) -> Judged
 
 // Refusals 20 to 26.
 fn judge(file: &[u8]) -> Judged
-    ensures { λ r. ⌜ r ≡ decided (headerSays (now (file .entry))) Judged.Good Judged.Refused ⌝ }
+    ensures { λ r. ⌜ r ≡ decided (headerSays fixedTypes (now (file .entry))) Judged.Good Judged.Refused ⌝ }
 {
     if file.len() < Primary::SIZE {
         return Judged::Refused(20);
@@ -420,51 +409,52 @@ fn segment_at(header: &[u8], p: usize) -> Segment
     }
 }
 
-fn image_fields(header: &[u8]) -> ImageStructure
-    requires { ⌜ Fine (now header) ⌝ }
-    ensures { λ r. ⌜ r ≡ imageOf (now (header .entry)) ⌝ }
+// The fields of each fixed type: of the record at its place, or its absence. Whoever found the place knows that the record stands whole.
+fn image_fields(header: &[u8], place: Stands) -> ImageStructure
+    requires { ⌜ StandsWhole 9 (now header) place ⌝ }
+    ensures { λ r. ⌜ r ≡ imageIf (now (header .entry)) place ⌝ }
 {
-    match find_type(header, Image::KIND) {
+    match place {
         Stands::Nowhere => ImageStructure::Absent,
         Stands::At(p) => ImageStructure::There(image_at(header, p)),
     }
 }
 
-fn navigation_fields(header: &[u8]) -> ImageNavigation
-    requires { ⌜ Fine (now header) ⌝ }
-    ensures { λ r. ⌜ r ≡ navigationOf (now (header .entry)) ⌝ }
+fn navigation_fields(header: &[u8], place: Stands) -> ImageNavigation
+    requires { ⌜ StandsWhole 51 (now header) place ⌝ }
+    ensures { λ r. ⌜ r ≡ navigationIf (now (header .entry)) place ⌝ }
 {
-    match find_type(header, Navigation::KIND) {
+    match place {
         Stands::Nowhere => ImageNavigation::Absent,
         Stands::At(p) => ImageNavigation::There(navigation_at(header, p)),
     }
 }
 
-fn name_octets(header: &[u8]) -> [u8; Navigation::NAME]
-    requires { ⌜ Fine (now header) ⌝ }
-    ensures { λ r. ⌜ r ≡ nameOf (now (header .entry)) ⌝ }
+fn name_octets(header: &[u8], place: Stands) -> [u8; Navigation::NAME]
+    requires { ⌜ StandsWhole 51 (now header) place ⌝ }
+    ensures { λ r. ⌜ r ≡ nameIf (now (header .entry)) place ⌝ }
 {
-    match find_type(header, Navigation::KIND) {
+    match place {
         Stands::Nowhere => [0u8; Navigation::NAME],
         Stands::At(p) => name_at(header, p),
     }
 }
 
-fn time_fields(header: &[u8]) -> TimeStamp
-    requires { ⌜ Fine (now header) ⌝ }
-    ensures { λ r. ⌜ r ≡ timeOf (now (header .entry)) ⌝ }
+fn time_fields(header: &[u8], place: Stands) -> TimeStamp
+    requires { ⌜ StandsWhole 10 (now header) place ⌝ }
+    ensures { λ r. ⌜ r ≡ timeIf (now (header .entry)) place ⌝ }
 {
-    match find_type(header, Time::KIND) {
+    match place {
         Stands::Nowhere => TimeStamp::Absent,
         Stands::At(p) => TimeStamp::There(time_at(header, p)),
     }
 }
 
-fn segment_fields(header: &[u8]) -> ImageSegment
-    requires { ⌜ Fine (now header) ⌝ }
-    ensures { λ r. ⌜ r ≡ segmentOf (now (header .entry)) ⌝ }
+fn segment_fields(header: &[u8], place: Stands) -> ImageSegment
+    requires { ⌜ StandsWhole 7 (now header) place ⌝ }
+    ensures { λ r. ⌜ r ≡ segmentIf (now (header .entry)) place ⌝ }
 {
-    match find_type(header, Segment::KIND) {
+    match place {
         Stands::Nowhere => ImageSegment::Absent,
         Stands::At(p) => ImageSegment::There(segment_at(header, p)),
     }
@@ -481,19 +471,23 @@ fn refused_header(n: u8) -> HeaderAnswer
 
 // The fixed fields of a header that nothing is to be refused of.
 fn fields(header: &[u8]) -> HeaderAnswer
-    requires { ⌜ Fine (now header) ⌝ }
+    requires { ⌜ Fine fixedTypes (now header) ⌝ }
     ensures { λ r. ⌜ r ≡ fieldsOf (now (header .entry)) ⌝ }
 {
+    let image = find_type(header, Image::KIND);
+    let navigation = find_type(header, Navigation::KIND);
+    let time = find_type(header, Time::KIND);
+    let segment = find_type(header, Segment::KIND);
     let read = Header {
         primary: primary_fields(header),
-        image: image_fields(header),
-        navigation: navigation_fields(header),
-        time: time_fields(header),
-        segment: segment_fields(header),
+        image: image_fields(header, image),
+        navigation: navigation_fields(header, navigation),
+        time: time_fields(header, time),
+        segment: segment_fields(header, segment),
     };
     HeaderAnswer {
         read: HeaderRead::Read(read),
-        name: name_octets(header),
+        name: name_octets(header, navigation),
     }
 }
 

@@ -61,7 +61,13 @@ module _ (q : List ℕ) (h : 0 < length q) where
       unfolding shapeText
       in-range e =
           let flags : ltb 3 (numberAt q 0 1) ≡ false = rw (numberAt-one q 0 h) (le-ltb _ _ p) in
-          rw (flags, good-count (numberAt q 13 2) l .0, good-count (numberAt q 15 2) e .0, good-count (numberAt q 13 2) l .1, good-count (numberAt q 15 2) e .1)
+          rw (
+            flags,
+            good-count (numberAt q 13 2) l .0,
+            good-count (numberAt q 15 2) e .0,
+            good-count (numberAt q 13 2) l .1,
+            good-count (numberAt q 15 2) e .1,
+          )
 
 -- three octets are always in range
 pub good-counter : (n : ℕ) {k : Counter} → n < 0x1000000 → checkedCounter n ≡ counter.Good k → k ≡ record { 0 = n }

@@ -32,7 +32,8 @@ more xs line x l (Holds.whole few e) = go (decLt (length xs) 2050)
   where
     go : Dec (length xs < 2050) → Holds (xs ++ x ∷ []) (set line (length xs) x) (oneMore (length xs))
     go (yes h) =
-        let kept : take (length (xs ++ x ∷ [])) (set line (length xs) x) ≡ xs ++ x ∷ [] = rw (longer xs x, add-one (length xs), take-suc-set line (length xs) x (omega arith), e) in
+        let kept : take (length (xs ++ x ∷ [])) (set line (length xs) x) ≡ xs ++ x ∷ [] =
+        rw (longer xs x, add-one (length xs), take-suc-set line (length xs) x (omega arith), e) in
         rw (lt-ltb _ _ h, ← longer xs x) (Holds.whole (omega (arith, longer xs x)) kept)
     go (no h) =
         let all : 2050 ≤ length xs = omega arith in

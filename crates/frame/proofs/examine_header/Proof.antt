@@ -65,7 +65,7 @@ returns-6 c =
       desk = sym (d .desk-of .ensures) ∙ w .w .given .1;
       allowed = λ e. tag-allowed _ (c .before .match2 .keys2) (m .meaning .ensures ∙ e);
       counter = refl;
-      pointer = refl;
+      pointer = m .meaning .ensures;
     }))
 
 pub examine-header-spec : {M : Type 1} → statement M

@@ -31,7 +31,18 @@ same-length c = search needs
 
 returns : tie.Need-returns
 unfolding fieldsText
-returns c = (search needs, behind (behind (behind (behind (behind (c .before .before .before .before .before .before .before .before .before .before .before .before .before .before .before .before .before .before .before .before .before .before .with-number .ensures .1) (c .before .before .before .before .before .before .before .before .before .before .before .before .before .before .before .before .before .before .primary .ensures .1)) (c .before .before .before .before .before .before .before .before .before .before .before .before .before .before .image .ensures .1)) (c .before .before .before .before .before .before .before .before .before .before .navigation .ensures .1)) (c .before .before .before .before .before .before .time .ensures .1)) (c .before .before .segment .ensures .1))
+returns c = (
+  search needs,
+  let at-time = c .before .before .before .before .before .before in
+      let at-navigation = at-time .before .before .before .before in
+      let at-image = at-navigation .before .before .before .before in
+      let at-primary = at-image .before .before .before .before in
+      let at-with-number = at-primary .before .before .before .before in
+      let first = behind (at-with-number .with-number .ensures .1) (at-primary .primary .ensures .1) in
+      let second = behind first (at-image .image .ensures .1) in
+      let third = behind second (at-navigation .navigation .ensures .1) in
+      behind (behind third (at-time .time .ensures .1)) (c .before .before .segment .ensures .1),
+)
 
 pub fields-spec : {M : Type 1} → statement M
 fields-spec =

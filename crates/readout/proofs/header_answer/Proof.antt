@@ -24,7 +24,12 @@ same-length c = search needs
 
 returns : tie.Need-returns
 unfolding headerText
-returns c = (search needs, rw (← c .before .before .before .before .before .before .before .before .read-header .ensures .0, c .before .before .before .before .before .before .read .given .1) (c .before .before .with-number .ensures .1))
+returns c = (
+  search needs,
+  let at-read = c .before .before .before .before .before .before in
+      let at-read-header = at-read .before .before in
+      rw (← at-read-header .read-header .ensures .0, at-read .read .given .1) (c .before .before .with-number .ensures .1),
+)
 
 enum-known-read-2 : tie.Need-enum-known-read-2
 enum-known-read-2 c = search needs
@@ -37,7 +42,10 @@ same-length-2 c = search needs
 
 returns-2 : tie.Need-returns-2
 unfolding headerText
-returns-2 c = rw (← c .before .before .before .before .before .before .before .before .before .before .read-header .ensures .0, c .before .before .before .before .before .before .before .before .read2 .given .1) (c .before .before .fields .ensures)
+returns-2 c =
+    let at-read2 = c .before .before .before .before .before .before .before .before in
+    let at-read-header = at-read2 .before .before in
+    rw (← at-read-header .read-header .ensures .0, at-read2 .read2 .given .1) (c .before .before .fields .ensures)
 
 pub header-answer-spec : {M : Type 1} → statement M
 header-answer-spec =

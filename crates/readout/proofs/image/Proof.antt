@@ -41,7 +41,12 @@ same-length c = search needs
 
 returns-2 : tie.Need-returns-2
 unfolding imageText
-returns-2 c = (search needs, rw (c .before .before .before .before .before .before .before .before .before .before .before .before .before .before .i .given .1) (behind (c .before .before .before .before .before .before .before .with-three .ensures .1) (c .before .before .number .ensures .1)))
+returns-2 c = (
+  search needs,
+  let at-with-three = c .before .before .before .before .before .before .before in
+      let at-i = at-with-three .before .before .before .before .before .before .before in
+      rw (at-i .i .given .1) (behind (at-with-three .with-three .ensures .1) (c .before .before .number .ensures .1)),
+)
 
 pub image-spec : {M : Type 1} → statement M
 image-spec =

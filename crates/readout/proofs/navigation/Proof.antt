@@ -30,10 +30,19 @@ same-length c = search needs
 
 returns-2 : tie.Need-returns-2
 unfolding navigationText
-returns-2 c =
-    let fits = c .before .before .before .before .before .before .before .before .before .before .struct-told .given in
-    let pairs = rw (same-field _ (fits .0 .1), same-field _ (fits .1 .0 .1), same-field _ (fits .1 .1 .0 .1), same-field _ (fits .1 .1 .1 .0 .1)) at (behind (behind (c .before .before .before .before .before .before .before .before .before .before .before .before .before .before .named .ensures .1) (c .before .before .before .before .before .before .before .before .signed-pair .ensures .1)) (c .before .before .signed-pair2 .ensures .1)) in
-    (search needs, rw (c .before .before .before .before .before .before .before .before .before .before .before .before .before .before .before .before .before .n .given .1) pairs)
+returns-2 c = (
+  search needs,
+  let at-signed-pair = c .before .before .before .before .before .before .before .before in
+      let at-struct-told = at-signed-pair .before .before in
+      let at-named = at-struct-told .before .before .before .before in
+      let at-n = at-named .before .before .before in
+      let fits = at-struct-told .struct-told .given in
+      let first = behind (at-named .named .ensures .1) (at-signed-pair .signed-pair .ensures .1) in
+      let pairs =
+      rw (same-field _ (fits .0 .1), same-field _ (fits .1 .0 .1), same-field _ (fits .1 .1 .0 .1), same-field _ (fits .1 .1 .1 .0 .1))
+      at (behind first (c .before .before .signed-pair2 .ensures .1)) in
+      rw (at-n .n .given .1) pairs,
+)
 
 pub navigation-spec : {M : Type 1} → statement M
 navigation-spec =

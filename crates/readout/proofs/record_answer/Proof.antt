@@ -42,7 +42,15 @@ same-length c = search needs
 
 returns : tie.Need-returns
 unfolding recordText
-returns c = (search needs, rw (← whole-rest (c .before .before .before .before .before .before .before .before .before .before .before .before .before .args .q .now) 2, ← c .before .before .before .before .before .before .before .before .before .before .u16-at .ensures, sym (c .before .before .before .before .before .before .before .before .read-record .ensures .0) ∙ c .before .before .before .before .before .before .a .given .1) (c .before .before .with-number .ensures .1))
+returns c = (
+  search needs,
+  let at-a = c .before .before .before .before .before .before in
+      let at-read-record = at-a .before .before in
+      let at-u16-at = at-read-record .before .before in
+      let start = at-u16-at .before .before .before in
+      rw (← whole-rest (start .args .q .now) 2, ← at-u16-at .u16-at .ensures, sym (at-read-record .read-record .ensures .0) ∙ at-a .a .given .1)
+      (c .before .before .with-number .ensures .1),
+)
 
 enum-known-a-2 : tie.Need-enum-known-a-2
 enum-known-a-2 c = search needs
@@ -64,7 +72,16 @@ same-length-2 c = search needs
 
 returns-2 : tie.Need-returns-2
 unfolding recordText
-returns-2 c = (search needs, rw (← whole-rest (c .before .before .before .before .before .before .before .before .before .before .before .before .before .before .before .before .before .before .args .q .now) 2, ← c .before .before .before .before .before .before .before .before .before .before .before .before .before .before .before .u16-at .ensures, sym (c .before .before .before .before .before .before .before .before .before .before .before .before .before .read-record .ensures .0) ∙ c .before .before .before .before .before .before .before .before .before .before .before .a2 .given .1) (behind (c .before .before .before .before .before .before .before .with-number2 .ensures .1) (c .before .before .numbers .ensures .1)))
+returns-2 c = (
+  search needs,
+  let at-with-number2 = c .before .before .before .before .before .before .before in
+      let at-a2 = at-with-number2 .before .before .before .before in
+      let at-read-record = at-a2 .before .before in
+      let at-u16-at = at-read-record .before .before in
+      let start = at-u16-at .before .before .before in
+      rw (← whole-rest (start .args .q .now) 2, ← at-u16-at .u16-at .ensures, sym (at-read-record .read-record .ensures .0) ∙ at-a2 .a2 .given .1)
+      (behind (at-with-number2 .with-number2 .ensures .1) (c .before .before .numbers .ensures .1)),
+)
 
 pub record-answer-spec : {M : Type 1} → statement M
 record-answer-spec =

@@ -35,7 +35,11 @@ same-length c = search needs
 
 returns-2 : tie.Need-returns-2
 unfolding segmentText
-returns-2 c = (search needs, rw (c .before .before .before .before .before .before .before .before .before .s .given .1) (c .before .before .with-three .ensures .1))
+returns-2 c = (
+  search needs,
+  let at-s = c .before .before .before .before .before .before .before .before .before in
+      rw (at-s .s .given .1) (c .before .before .with-three .ensures .1),
+)
 
 pub segment-spec : {M : Type 1} → statement M
 segment-spec =

@@ -16,7 +16,12 @@ same-length c = search needs
 
 returns : tie.Need-returns
 unfolding signedText
-returns c = (search needs, rw (c .before .before .before .before .magnitude .ensures, toZ-ofZ (c .before .before .before .before .before .before .fits .v)) at (c .before .before .signed .ensures .1))
+returns c = (
+  search needs,
+  let at-magnitude = c .before .before .before .before in
+      let at-fits = at-magnitude .before .before in
+      rw (at-magnitude .magnitude .ensures, toZ-ofZ (at-fits .fits .v)) at (c .before .before .signed .ensures .1),
+)
 
 pub signed-spec : {M : Type 1} → statement M
 signed-spec = tie.close (tie.spec magnitude-requires signed-requires same-length returns)

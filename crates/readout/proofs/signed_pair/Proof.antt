@@ -15,7 +15,12 @@ same-length : tie.Need-same-length
 same-length c = search needs
 
 returns : tie.Need-returns
-returns c = (search needs, rw (toZ-ofZ (c .before .before .before .before .before .before .before .before .before .fits .v), toZ-ofZ (c .before .before .before .before .before .before .before .before .before .fits .w)) at (behind (c .before .before .before .before .before .before .signed .ensures .1) (c .before .before .signed2 .ensures .1)))
+returns c = (
+  search needs,
+  let at-signed = c .before .before .before .before .before .before in
+      let at-fits = at-signed .before .before .before in
+      rw (toZ-ofZ (at-fits .fits .v), toZ-ofZ (at-fits .fits .w)) at (behind (at-signed .signed .ensures .1) (c .before .before .signed2 .ensures .1)),
+)
 
 pub signed-pair-spec : {M : Type 1} → statement M
 signed-pair-spec = tie.close (tie.spec signed-requires signed-requires-2 same-length returns)

@@ -35,7 +35,11 @@ same-length c = search needs
 
 returns-2 : tie.Need-returns-2
 unfolding timeText
-returns-2 c = (search needs, rw (c .before .before .before .before .before .before .before .before .before .t .given .1) (c .before .before .with-three .ensures .1))
+returns-2 c = (
+  search needs,
+  let at-t = c .before .before .before .before .before .before .before .before .before in
+      rw (at-t .t .given .1) (c .before .before .with-three .ensures .1),
+)
 
 pub time-spec : {M : Type 1} → statement M
 time-spec =

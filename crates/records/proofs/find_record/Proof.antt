@@ -28,7 +28,9 @@ record-at-requires c κs = omega arith
 returns : tie.Need-returns Inv-loop μ-loop
 returns c =
     let read = c .before in
-    sym (found (read .before .before .loop .inv) (read .record-at .ensures) (read .before .loop-test .taken) _ (λ rs. nth-here _ rs _ (c .if1 .taken)))
+    sym
+    (found (read .before .before .loop .inv) (read .record-at .ensures) (read .before .loop-test .taken) _
+    (λ rs. nth-here _ rs _ (c .if1 .taken)))
 
 sub-left : tie.Need-sub-left Inv-loop μ-loop
 sub-left c = search needs

@@ -24,7 +24,9 @@ record-at-requires c κs = omega arith
 returns : tie.Need-returns Inv-loop μ-loop
 returns c =
     let read = c .before .before in
-    sym (found (read .before .before .loop .inv) (read .record-at .ensures) (read .before .loop-test .taken) _ (λ rs. place-here _ rs _ (c .if1 .taken)))
+    sym
+    (found (read .before .before .loop .inv) (read .record-at .ensures) (read .before .loop-test .taken) _
+    (λ rs. place-here _ rs _ (c .if1 .taken)))
 
 next-place-requires : tie.Need-next-place-requires Inv-loop μ-loop
 next-place-requires c κs = omega (arith, place-of _ _ (c .before .before .record-at .ensures))

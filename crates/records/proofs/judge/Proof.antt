@@ -19,13 +19,13 @@ whole c =
     record { long = omega arith; starts = starts (c .before .before .before); least = omega arith; within = omega arith }
 
 returns : tie.Need-returns
-returns c = sym (says-20 _ (omega arith))
+returns c = sym (says-20 _ _ (omega arith))
 
 shared-slice-read-if2 : tie.Need-shared-slice-read-if2
 shared-slice-read-if2 c = search needs
 
 returns-2 : tie.Need-returns-2
-returns-2 c = sym (says-21-type _ (omega arith) (c .if2 .taken))
+returns-2 c = sym (says-21-type _ _ (omega arith) (c .if2 .taken))
 
 u16-at-requires : tie.Need-u16-at-requires
 u16-at-requires c κs = search needs
@@ -34,7 +34,7 @@ cast-if3 : tie.Need-cast-if3
 cast-if3 c = search needs
 
 returns-3 : tie.Need-returns-3
-returns-3 c = sym (says-21-length _ (omega arith) (λ e. c .if3 .taken (c .before .u16-at .ensures ∙ e)))
+returns-3 c = sym (says-21-length _ _ (omega arith) (λ e. c .if3 .taken (c .before .u16-at .ensures ∙ e)))
 
 u32-at-requires : tie.Need-u32-at-requires
 u32-at-requires c κs = search needs
@@ -43,10 +43,10 @@ cast-end : tie.Need-cast-end
 cast-end c = search needs
 
 returns-4 : tie.Need-returns-4
-returns-4 c = sym (says-22-least _ (omega arith) (starts (c .before .before)) (omega arith))
+returns-4 c = sym (says-22-least _ _ (omega arith) (starts (c .before .before)) (omega arith))
 
 returns-5 : tie.Need-returns-5
-returns-5 c = sym (says-22-beyond _ (omega arith) (starts (c .before .before .before)) (omega arith))
+returns-5 c = sym (says-22-beyond _ _ (omega arith) (starts (c .before .before .before)) (omega arith))
 
 sub-judge-records : tie.Need-sub-judge-records
 sub-judge-records c = search needs
@@ -77,7 +77,7 @@ returns-6 c =
     let judged = c .before .before .before in
     let lent = judged .before .before in
     sym
-    (says-records _ (whole lent) (header-part _ (lent .before .before .u32-at .ensures)) (judged .judge-records .ensures) _
+    (says-records _ _ (whole lent) (header-part _ (lent .before .before .u32-at .ensures)) (judged .judge-records .ensures) _
     (c .before .judged .given .1))
 
 returns-7 : tie.Need-returns-7
@@ -87,7 +87,7 @@ returns-7 c =
     c .judge-size .ensures
     ∙ rw (c .before .u64-at .ensures, lent .before .before .u32-at .ensures)
     (sym
-    (says-size _ (whole lent) (header-part _ (lent .before .before .u32-at .ensures)) (judged .judge-records .ensures)
+    (says-size _ _ (whole lent) (header-part _ (lent .before .before .u32-at .ensures)) (judged .judge-records .ensures)
     (c .before .before .enum-told .given .1)))
 
 pub judge-spec : {M : Type 1} → statement M

@@ -4,6 +4,7 @@ use mathlib.Core.Path.{sym}
 use Prim.Native.Nat.{_-_}
 use native.Mathlib.Omega.{arith}
 use lib.ListN.{length}
+use Rattle.records.specs.Table.{fixedTypes}
 use Rattle.records.proofs.Walk.{place-of}
 use Rattle.records.proofs.Marking.{Judging, judging-begins, judging-ends, judging-refused, judging-on}
 use borrow.Author.Needs.{needs}
@@ -11,13 +12,13 @@ use Rattle.records.proofs.judge_records.Statement.{statement}
 use Rattle.records.proofs.judge_records.Tie as tie
 
 abbrev Inv-loop : tie.InvT-loop
-Inv-loop header seen₀ at₀ seen at = Judging header seen at
+Inv-loop header seen₀ at₀ seen at = Judging fixedTypes header seen at
 
 abbrev μ-loop : tie.MeasureT-loop
 μ-loop header seen₀ at₀ seen at = length header - at
 
 loop-holds : tie.Need-loop-holds Inv-loop μ-loop
-loop-holds c = judging-begins _
+loop-holds c = judging-begins _ _
 
 record-at-requires : tie.Need-record-at-requires Inv-loop μ-loop
 record-at-requires c κs = omega arith
@@ -39,7 +40,7 @@ returns c =
     let judged = c .before .before .before in
     let read = judged .before .before in
     sym
-    (judging-refused (read .before .before .loop .inv) (read .record-at .ensures) (read .before .loop-test .taken) (omega arith)
+    (judging-refused _ (read .before .before .loop .inv) (read .record-at .ensures) (read .before .loop-test .taken) (omega arith)
     (judged .judge-record .ensures)
     _
     (c .before .judged .given .1))
@@ -60,7 +61,7 @@ loop-again : tie.Need-loop-again Inv-loop μ-loop
 loop-again c =
     let judged = c .before .before .before in
     let read = judged .before .before in
-    judging-on (read .before .before .loop .inv) (read .record-at .ensures) (read .before .loop-test .taken) (omega arith)
+    judging-on _ (read .before .before .loop .inv) (read .record-at .ensures) (read .before .loop-test .taken) (omega arith)
     (judged .judge-record .ensures)
     _
     (c .before .enum-told .given .1)
@@ -68,7 +69,7 @@ loop-again c =
     (c .next-place .ensures .1)
 
 returns-2 : tie.Need-returns-2 Inv-loop μ-loop
-returns-2 c = sym (judging-ends (c .before .loop .inv) (c .loop-test .left))
+returns-2 c = sym (judging-ends _ (c .before .loop .inv) (c .loop-test .left))
 
 pub judge-records-spec : {M : Type 1} → statement M
 judge-records-spec =

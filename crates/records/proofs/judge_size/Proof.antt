@@ -1,21 +1,22 @@
 -- `records::judge_size` meets its contract. Assumes nothing.
 use mathlib.Core.Path.{sym}
-use borrow.Author.Tests.{eq-eqb, ne-eqb}
+use native.Mathlib.Omega.{arith}
+use Rattle.records.proofs.Answering.{size-wrong, size-right}
 use borrow.Author.Needs.{needs}
 use Rattle.records.proofs.judge_size.Statement.{statement}
 use Rattle.records.proofs.judge_size.Tie as tie
 
-octets-for-requires : tie.Need-octets-for-requires
-octets-for-requires c κs = search needs
+rounded-up-requires : tie.Need-rounded-up-requires
+rounded-up-requires c κs = search needs
 
 add-wanted : tie.Need-add-wanted
 add-wanted c = search needs
 
 returns : tie.Need-returns
-returns c = rw (sym (c .before .octets-for .ensures .0), ne-eqb _ _ (c .if1 .taken))
+returns c = sym (size-wrong _ _ _ (omega arith))
 
 returns-2 : tie.Need-returns-2
-returns-2 c = rw (sym (c .before .octets-for .ensures .0), eq-eqb _ _ (c .if1 .left))
+returns-2 c = sym (size-right _ _ _ (omega arith))
 
 pub judge-size-spec : {M : Type 1} → statement M
-judge-size-spec = tie.close (tie.spec octets-for-requires add-wanted returns returns-2)
+judge-size-spec = tie.close (tie.spec rounded-up-requires add-wanted returns returns-2)

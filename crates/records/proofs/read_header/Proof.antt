@@ -1,6 +1,7 @@
 -- `records::read_header` meets its contract: the answer follows the judgement. Assumes nothing.
 use mathlib.Core.Path.{sym, ap, _∙_}
 use native.Mathlib.Omega.{arith}
+use Rattle.records.specs.Table.{fixedTypes}
 use Rattle.records.specs.Records.{headerSays, headerOf}
 use Rattle.records.specs.Reader.{fieldsOf, refusedHeader, readHeader}
 use Rattle.records.proofs.Passing.{Accepts}
@@ -23,8 +24,8 @@ enum-told : tie.Need-enum-told
 enum-told c = search needs
 
 -- behind the judgement
-accepted : (c : tie.After-enum-told) → Accepts (c .before .before .before .before .args .file .now)
-accepted c = good-accepts _ (c .before .before .judge .ensures) (c .enum-told .given .1)
+accepted : (c : tie.After-enum-told) → Accepts fixedTypes (c .before .before .before .before .args .file .now)
+accepted c = good-accepts _ _ (c .before .before .judge .ensures) (c .enum-told .given .1)
 
 u32-at-requires : tie.Need-u32-at-requires
 u32-at-requires c κs = omega (arith, accepted c .head .long)
@@ -42,14 +43,15 @@ part-fields-end : tie.Need-part-fields-end
 part-fields-end c = omega (arith, accepted (c .before) .head .within)
 
 fields-requires : tie.Need-fields-requires
-fields-requires c κs = header-fine _ (header-part _ (c .before .u32-at .ensures)) (accepted (c .before .before))
+fields-requires c κs = header-fine _ _ (header-part _ (c .before .u32-at .ensures)) (accepted (c .before .before))
 
 returns : tie.Need-returns
 unfolding readHeader
 returns c =
     let judged = c .before .before .before .before in
     header-told _
-    (c .refused-header .ensures ∙ sym (answered (headerSays _) _ refusedHeader (judged .judge .ensures) (c .before .before .judged .given .1)))
+    (c .refused-header .ensures
+    ∙ sym (answered (headerSays fixedTypes _) _ refusedHeader (judged .judge .ensures) (c .before .before .judged .given .1)))
 
 returns-2 : tie.Need-returns-2
 unfolding readHeader
@@ -58,7 +60,9 @@ returns-2 c =
     let told = c .before .before .before in
     header-told _
     (c .fields .ensures ∙ ap fieldsOf (header-part file (c .before .before .u32-at .ensures))
-    ∙ sym (answered (headerSays file) (fieldsOf (headerOf file)) refusedHeader (told .before .before .judge .ensures) (told .enum-told .given .1)))
+    ∙ sym
+    (answered (headerSays fixedTypes file) (fieldsOf (headerOf file)) refusedHeader (told .before .before .judge .ensures)
+    (told .enum-told .given .1)))
 
 pub read-header-spec : {M : Type 1} → statement M
 read-header-spec =

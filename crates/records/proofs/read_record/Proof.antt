@@ -3,6 +3,7 @@ use mathlib.Core.Path.{sym, ap, _∙_}
 use mathlib.Core.List.{List}
 use Prim.Native.Nat.{ℕ}
 use native.Mathlib.Omega.{arith}
+use Rattle.records.specs.Table.{fixedTypes}
 use Rattle.records.specs.Records.{headerSays, headerOf, records, nth}
 use Rattle.records.specs.Reader.{readRecord}
 use Rattle.records.specs.declared.RecordAnswer.the-variants.{Refused}
@@ -23,8 +24,8 @@ enum-told : tie.Need-enum-told
 enum-told c = search needs
 
 -- behind the judgement
-accepted : (c : tie.After-enum-told) → Accepts (c .before .before .before .before .args .file .now)
-accepted c = good-accepts _ (c .before .before .judge .ensures) (c .enum-told .given .1)
+accepted : (c : tie.After-enum-told) → Accepts fixedTypes (c .before .before .before .before .args .file .now)
+accepted c = good-accepts _ _ (c .before .before .judge .ensures) (c .enum-told .given .1)
 
 u32-at-requires : tie.Need-u32-at-requires
 u32-at-requires c κs = omega (arith, accepted c .head .long)
@@ -48,7 +49,7 @@ returns : tie.Need-returns
 unfolding readRecord
 returns c =
     let judged = c .before .before .before in
-    record-told _ _ (sym (answered (headerSays _) _ Refused (judged .judge .ensures) (c .before .judged .given .1)))
+    record-told _ _ (sym (answered (headerSays fixedTypes _) _ Refused (judged .judge .ensures) (c .before .judged .given .1)))
 
 returns-2 : tie.Need-returns-2
 unfolding readRecord
@@ -58,7 +59,8 @@ returns-2 c =
     record-told _ _
     (c .find-record .ensures ∙ ap (λ (h : List ℕ). nth (records h) (start .n)) (header-part (start .file .now) (c .before .before .u32-at .ensures))
     ∙ sym
-    (answered (headerSays (start .file .now)) (nth (records (headerOf (start .file .now))) (start .n)) Refused (told .before .before .judge .ensures)
+    (answered (headerSays fixedTypes (start .file .now)) (nth (records (headerOf (start .file .now))) (start .n)) Refused
+    (told .before .before .judge .ensures)
     (told .enum-told .given .1)))
 
 pub read-record-spec : {M : Type 1} → statement M

@@ -1,38 +1,24 @@
--- `records::segment_fields` meets its contract: where the record stands, it stands whole. Assumes nothing.
-use mathlib.Core.Path.{refl, sym, ap, _∙_}
-use Rattle.records.specs.Table.{lengthOf}
-use Rattle.records.specs.Reader.{segmentOf}
+-- `records::segment_fields` meets its contract. Assumes nothing.
+use mathlib.Core.Path.{ap}
 use Rattle.records.specs.declared.ImageSegment.the-variants.{There}
-use Rattle.records.proofs.Passing.{stands-within}
 use borrow.Author.Needs.{needs}
 use Rattle.records.proofs.segment_fields.Statement.{statement}
 use Rattle.records.proofs.segment_fields.Tie as tie
 
-find-type-requires : tie.Need-find-type-requires
-find-type-requires c κs = search needs
-
 enum-told : tie.Need-enum-told
 enum-told c = search needs
 
-enum-known-p : tie.Need-enum-known-p
-enum-known-p c = search needs
+enum-known-place : tie.Need-enum-known-place
+enum-known-place c = search needs
 
 segment-at-requires : tie.Need-segment-at-requires
-unfolding lengthOf
-segment-at-requires c κs =
-    let sought = c .before .before .before in
-    stands-within 128 refl (sought .before .before .pre) _ (sym (sought .find-type .ensures) ∙ c .before .p .given .1)
+segment-at-requires c κs = c .before .before .before .before .pre _ (c .before .place .given .1)
 
 returns : tie.Need-returns
-unfolding segmentOf
-returns c = rw (sym (c .before .before .find-type .ensures) ∙ c .enum-told .given .1)
+returns c = rw (c .enum-told .given .1)
 
 returns-2 : tie.Need-returns-2
-unfolding segmentOf
-returns-2 c =
-    rw (sym (c .before .before .before .before .find-type .ensures) ∙ c .before .before .p .given .1) (ap There (c .segment-at .ensures))
+returns-2 c = rw (c .before .before .place .given .1) (ap There (c .segment-at .ensures))
 
 pub segment-fields-spec : {M : Type 1} → statement M
-segment-fields-spec =
-    tie.close
-    (tie.spec find-type-requires enum-told enum-known-p segment-at-requires returns returns-2)
+segment-fields-spec = tie.close (tie.spec enum-told enum-known-place segment-at-requires returns returns-2)

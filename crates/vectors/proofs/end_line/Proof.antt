@@ -42,7 +42,13 @@ same-length c = search needs
 
 returns-3 : tie.Need-returns-3
 unfolding printed
-returns-3 c = rw (ne-eqb _ _ (c .before .before .before .before .before .before .before .before .before .before .before .before .before .if1 .left), ne-eqb _ _ (c .before .before .before .before .before .before .before .before .before .before .before .if2 .left)) (behind (c .before .before .before .before .before .before .before .before .before .answer .ensures .1) (c .before .before .before .before .before .line-end .ensures .1) .holds)
+returns-3 c =
+    let at-line-end = c .before .before .before .before .before in
+    let at-answer = at-line-end .before .before .before .before in
+    let at-if2 = at-answer .before .before in
+    let at-if1 = at-if2 .before .before in
+    rw (ne-eqb _ _ (at-if1 .if1 .left), ne-eqb _ _ (at-if2 .if2 .left))
+    (behind (at-answer .answer .ensures .1) (at-line-end .line-end .ensures .1) .holds)
 
 pub end-line-spec : {M : Type 1} → statement M
 end-line-spec =

@@ -34,7 +34,11 @@ loop-less c = search needs
 loop-again : tie.Need-loop-again Inv-loop μ-loop
 loop-again c =
     let l = c .before .before .before .before .before .before .before .before .before .loop in
-    (search needs, search needs, came-more (c .before .before .before .before .before .before .before .before .before .before .before .before .before .args .came .now) (l .i) (kept (l .n) (l .line) (l .out)) (l .inv .2) _ (omega arith) (c .before .before .before .before .take-octet .ensures))
+    let octets = c .before .before .before .before .before .before .before .before .before .before .before .before .before .args .came .now in (
+      search needs,
+      search needs,
+      came-more octets (l .i) (kept (l .n) (l .line) (l .out)) (l .inv .2) _ (omega arith) (c .before .before .before .before .take-octet .ensures),
+    )
 
 same-length : tie.Need-same-length Inv-loop μ-loop
 same-length c = search needs

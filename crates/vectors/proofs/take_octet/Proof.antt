@@ -26,7 +26,9 @@ same-length-3 c = search needs
 
 returns-2 : tie.Need-returns-2
 unfolding came
-returns-2 c = rw (ne-eqb _ _ (c .before .before .before .before .if1 .left), c .before .before .gather .ensures .0, c .before .before .gather .ensures .1)
+returns-2 c =
+    let at-if1 = c .before .before .before .before in
+    rw (ne-eqb _ _ (at-if1 .if1 .left), c .before .before .gather .ensures .0, c .before .before .gather .ensures .1)
 
 pub take-octet-spec : {M : Type 1} → statement M
 take-octet-spec =

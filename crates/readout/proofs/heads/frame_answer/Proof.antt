@@ -34,7 +34,12 @@ same-length c = search needs
 
 returns : tie.Need-returns
 unfolding frameText
-returns c = (search needs, behind (behind (c .before .before .before .before .before .before .before .before .before .before .before .with-three .ensures .1) (c .before .before .before .before .before .before .number .ensures .1)) (c .before .before .pointer-answer .ensures .1))
+returns c = (
+  search needs,
+  let at-number = c .before .before .before .before .before .before in
+      let at-with-three = at-number .before .before .before .before .before in
+      behind (behind (at-with-three .with-three .ensures .1) (at-number .number .ensures .1)) (c .before .before .pointer-answer .ensures .1),
+)
 
 pub frame-answer-spec : {M : Type 1} → statement M
 frame-answer-spec =

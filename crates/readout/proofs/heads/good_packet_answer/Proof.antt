@@ -37,7 +37,15 @@ same-length c = search needs
 
 returns : tie.Need-returns
 unfolding packetText
-returns c = (search needs, rw (c .before .before .before .before .before .before .before .before .before .before .before .kind .ensures, c .before .before .before .before .size .ensures) at (behind (behind (c .before .before .before .before .before .before .before .before .before .before .before .before .before .before .with-number .ensures .1) (c .before .before .before .before .before .before .before .before .before .kind-answer .ensures .1)) (c .before .before .numbers .ensures .1)))
+returns c = (
+  search needs,
+  let at-size = c .before .before .before .before in
+      let at-kind-answer = at-size .before .before .before .before .before in
+      let at-kind = at-kind-answer .before .before in
+      let at-with-number = at-kind .before .before .before in
+      rw (at-kind .kind .ensures, at-size .size .ensures) at
+      (behind (behind (at-with-number .with-number .ensures .1) (at-kind-answer .kind-answer .ensures .1)) (c .before .before .numbers .ensures .1)),
+)
 
 pub good-packet-answer-spec : {M : Type 1} → statement M
 good-packet-answer-spec =

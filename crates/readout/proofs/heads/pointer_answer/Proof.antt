@@ -29,7 +29,14 @@ same-length c = search needs
 
 returns : tie.Need-returns
 unfolding meaningText
-returns c = (search needs, rw (sym (c .before .before .before .before .before .before .before .before .meaning .ensures) ∙ c .before .before .before .before .before .before .m .given .1) (behind (c .before .before .before .before .before .before .before .before .before .before .before .number .ensures .1) (c .before .before .with-number .ensures .1)))
+returns c = (
+  search needs,
+  let at-m = c .before .before .before .before .before .before in
+      let at-meaning = at-m .before .before in
+      let at-number = at-meaning .before .before .before in
+      rw (sym (at-meaning .meaning .ensures) ∙ at-m .m .given .1)
+      (behind (at-number .number .ensures .1) (c .before .before .with-number .ensures .1)),
+)
 
 enum-told : tie.Need-enum-told
 enum-told c = search needs
@@ -45,7 +52,14 @@ same-length-2 c = search needs
 
 returns-2 : tie.Need-returns-2
 unfolding meaningText
-returns-2 c = (search needs, rw (sym (c .before .before .before .before .before .before .before .meaning .ensures) ∙ c .before .before .before .before .before .enum-told .given .1) (behind (c .before .before .before .before .before .before .before .before .before .before .number .ensures .1) (c .before .before .word .ensures)))
+returns-2 c = (
+  search needs,
+  let at-enum-told = c .before .before .before .before .before in
+      let at-meaning = at-enum-told .before .before in
+      let at-number = at-meaning .before .before .before in
+      rw (sym (at-meaning .meaning .ensures) ∙ at-enum-told .enum-told .given .1)
+      (behind (at-number .number .ensures .1) (c .before .before .word .ensures)),
+)
 
 enum-told-2 : tie.Need-enum-told-2
 enum-told-2 c = search needs
@@ -61,7 +75,14 @@ same-length-3 c = search needs
 
 returns-3 : tie.Need-returns-3
 unfolding meaningText
-returns-3 c = (search needs, rw (sym (c .before .before .before .before .before .before .before .meaning .ensures) ∙ c .before .before .before .before .before .enum-told2 .given .1) (behind (c .before .before .before .before .before .before .before .before .before .before .number .ensures .1) (c .before .before .word2 .ensures)))
+returns-3 c = (
+  search needs,
+  let at-enum-told2 = c .before .before .before .before .before in
+      let at-meaning = at-enum-told2 .before .before in
+      let at-number = at-meaning .before .before .before in
+      rw (sym (at-meaning .meaning .ensures) ∙ at-enum-told2 .enum-told2 .given .1)
+      (behind (at-number .number .ensures .1) (c .before .before .word2 .ensures)),
+)
 
 pub pointer-answer-spec : {M : Type 1} → statement M
 pointer-answer-spec =

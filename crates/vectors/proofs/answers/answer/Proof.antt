@@ -49,7 +49,10 @@ part-answer-to-start : tie.Need-part-answer-to-start
 part-answer-to-start c = search needs
 
 part-answer-to-end : tie.Need-part-answer-to-end
-part-answer-to-end c = omega (arith, subst (λ (d : Decoded). countOf d ≤ 1024) (c .before .before .before .d .given .1) (c .before .before .before .before .before .before .question .ensures .0))
+part-answer-to-end c =
+    let at-d = c .before .before .before in
+    let few = subst (λ (d : Decoded). countOf d ≤ 1024) (at-d .d .given .1) (at-d .before .before .before .question .ensures .0) in
+    omega (arith, few)
 
 answer-to-requires : tie.Need-answer-to-requires
 answer-to-requires c κs = search needs
@@ -59,7 +62,12 @@ same-length-2 c = search needs
 
 returns-2 : tie.Need-returns-2
 unfolding answerOf
-returns-2 c = rw (le-ltb _ _ (c .before .before .before .before .before .before .before .before .before .before .before .before .before .before .if1 .left), ← (rw (c .before .before .before .before .before .before .before .before .d .given .1, sub-zero) at (c .before .before .before .before .before .before .before .before .before .before .before .question .ensures .1))) (rw sub-zero at (c .before .before .answer-to .ensures))
+returns-2 c =
+    let at-d = c .before .before .before .before .before .before .before .before in
+    let at-question = at-d .before .before .before in
+    let at-if1 = at-question .before .before .before in
+    rw (le-ltb _ _ (at-if1 .if1 .left), ← (rw (at-d .d .given .1, sub-zero) at (at-question .question .ensures .1)))
+    (rw sub-zero at (c .before .before .answer-to .ensures))
 
 enum-told : tie.Need-enum-told
 enum-told c = search needs
@@ -72,7 +80,12 @@ same-length-3 c = search needs
 
 returns-3 : tie.Need-returns-3
 unfolding answerOf
-returns-3 c = rw (le-ltb _ _ (c .before .before .before .before .before .before .before .before .before .before .if1 .left), ← (rw (c .before .before .before .before .enum-told .given .1, sub-zero) at (c .before .before .before .before .before .before .before .question .ensures .1))) (c .before .before .refusal2 .ensures)
+returns-3 c =
+    let at-enum-told = c .before .before .before .before in
+    let at-question = at-enum-told .before .before .before in
+    let at-if1 = at-question .before .before .before in
+    rw (le-ltb _ _ (at-if1 .if1 .left), ← (rw (at-enum-told .enum-told .given .1, sub-zero) at (at-question .question .ensures .1)))
+    (c .before .before .refusal2 .ensures)
 
 pub answer-spec : {M : Type 1} → statement M
 answer-spec =

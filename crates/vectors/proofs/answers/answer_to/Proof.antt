@@ -105,7 +105,18 @@ returns-10 : tie.Need-returns-10
 unfolding answerTo
 returns-10 c =
     let others = c .before .before .before .before .match .rest in
-    rw (ne-eqb _ _ (others .0 .0 .0 .0 .0 .0 .0 .0 .1), ne-eqb _ _ (others .0 .0 .0 .0 .0 .0 .0 .1), ne-eqb _ _ (others .0 .0 .0 .0 .0 .0 .1), ne-eqb _ _ (others .0 .0 .0 .0 .0 .1), ne-eqb _ _ (others .0 .0 .0 .0 .1), ne-eqb _ _ (others .0 .0 .0 .1), ne-eqb _ _ (others .0 .0 .1), ne-eqb _ _ (others .0 .1), ne-eqb _ _ (others .1)) (c .before .before .refusal .ensures)
+    rw (
+      ne-eqb _ _ (others .0 .0 .0 .0 .0 .0 .0 .0 .1),
+      ne-eqb _ _ (others .0 .0 .0 .0 .0 .0 .0 .1),
+      ne-eqb _ _ (others .0 .0 .0 .0 .0 .0 .1),
+      ne-eqb _ _ (others .0 .0 .0 .0 .0 .1),
+      ne-eqb _ _ (others .0 .0 .0 .0 .1),
+      ne-eqb _ _ (others .0 .0 .0 .1),
+      ne-eqb _ _ (others .0 .0 .1),
+      ne-eqb _ _ (others .0 .1),
+      ne-eqb _ _ (others .1),
+    )
+    (c .before .before .refusal .ensures)
 
 pub answer-to-spec : {M : Type 1} → statement M
 answer-to-spec =

@@ -35,7 +35,11 @@ same-length-2 : tie.Need-same-length-2
 same-length-2 c = search needs
 
 returns-2 : tie.Need-returns-2
-returns-2 c = absurd (no-bad-counter _ (c .before .before .before .before .before .before .before .u24-at .ensures .1) (sym (c .before .before .before .before .before .before .checked .ensures) ∙ c .before .before .before .before .enum-told .given .1))
+returns-2 c =
+    let at-enum-told = c .before .before .before .before in
+    let at-checked = at-enum-told .before .before in
+    let at-u24-at = at-checked .before in
+    absurd (no-bad-counter _ (at-u24-at .u24-at .ensures .1) (sym (at-checked .checked .ensures) ∙ at-enum-told .enum-told .given .1))
 
 u24-at-requires-2 : tie.Need-u24-at-requires-2
 u24-at-requires-2 c κs = search needs
@@ -56,7 +60,11 @@ same-length-3 : tie.Need-same-length-3
 same-length-3 c = search needs
 
 returns-3 : tie.Need-returns-3
-returns-3 c = absurd (no-bad-counter _ (c .before .before .before .before .before .before .before .u24-at2 .ensures .1) (sym (c .before .before .before .before .before .before .checked2 .ensures) ∙ c .before .before .before .before .enum-told2 .given .1))
+returns-3 c =
+    let at-enum-told2 = c .before .before .before .before in
+    let at-checked2 = at-enum-told2 .before .before in
+    let at-u24-at2 = at-checked2 .before in
+    absurd (no-bad-counter _ (at-u24-at2 .u24-at2 .ensures .1) (sym (at-checked2 .checked2 .ensures) ∙ at-enum-told2 .enum-told2 .given .1))
 
 slice-aggregate-with-number : tie.Need-slice-aggregate-with-number
 slice-aggregate-with-number c = search needs
@@ -75,10 +83,29 @@ same-length-4 c = search needs
 
 returns-4 : tie.Need-returns-4
 unfolding counterText
-returns-4 c =
-    let last = good-counter _ (c .before .before .before .before .before .before .before .before .before .before .before .before .before .before .before .u24-at .ensures .1) (sym (c .before .before .before .before .before .before .before .before .before .before .before .before .before .before .checked .ensures) ∙ c .before .before .before .before .before .before .before .before .before .before .before .before .checked-last .given .1) in
-    let next = good-counter _ (c .before .before .before .before .before .before .before .before .before .before .u24-at2 .ensures .1) (sym (c .before .before .before .before .before .before .before .before .before .checked2 .ensures) ∙ c .before .before .before .before .before .before .before .checked-next .given .1) in
-    (search needs, rw (eq-eqb _ _ (c .before .before .before .before .before .before .before .before .before .before .before .before .before .before .before .before .if1 .left), ← c .before .before .before .before .before .before .before .before .before .before .before .before .before .before .before .u24-at .ensures .0, ← c .before .before .before .before .before .before .before .before .before .before .u24-at2 .ensures .0, ← last, ← next, ← c .before .before .before .before .follows .ensures, ← as-number) (c .before .before .with-number .ensures .1))
+returns-4 c = (
+  search needs,
+  let at-follows = c .before .before .before .before in
+      let at-checked-next = at-follows .before .before .before in
+      let at-checked2 = at-checked-next .before .before in
+      let at-u24-at2 = at-checked2 .before in
+      let at-checked-last = at-u24-at2 .before .before in
+      let at-checked = at-checked-last .before .before in
+      let at-u24-at = at-checked .before in
+      let at-if1 = at-u24-at .before in
+      let last = good-counter _ (at-u24-at .u24-at .ensures .1) (sym (at-checked .checked .ensures) ∙ at-checked-last .checked-last .given .1) in
+      let next = good-counter _ (at-u24-at2 .u24-at2 .ensures .1) (sym (at-checked2 .checked2 .ensures) ∙ at-checked-next .checked-next .given .1) in
+      rw (
+        eq-eqb _ _ (at-if1 .if1 .left),
+        ← at-u24-at .u24-at .ensures .0,
+        ← at-u24-at2 .u24-at2 .ensures .0,
+        ← last,
+        ← next,
+        ← at-follows .follows .ensures,
+        ← as-number,
+      )
+      (c .before .before .with-number .ensures .1),
+)
 
 pub counter-answer-spec : {M : Type 1} → statement M
 counter-answer-spec =

@@ -25,7 +25,12 @@ same-length c = search needs
 
 returns : tie.Need-returns
 unfolding crcText
-returns c = (search needs, rw (c .before .before .before .before .crc .ensures) at (behind (c .before .before .before .before .before .before .before .word .ensures) (c .before .before .hex .ensures .1)))
+returns c = (
+  search needs,
+  let at-crc = c .before .before .before .before in
+      let at-word = at-crc .before .before .before in
+      rw (at-crc .crc .ensures) at (behind (at-word .word .ensures) (c .before .before .hex .ensures .1)),
+)
 
 pub crc-answer-spec : {M : Type 1} → statement M
 crc-answer-spec =

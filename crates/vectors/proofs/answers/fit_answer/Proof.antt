@@ -1,5 +1,7 @@
 -- `vectors::answers::fit_answer` meets its contract. Assumes nothing.
+use Prim.Native.Nat.{_<_}
 use native.Mathlib.Omega.{arith}
+use lib.ListN.{length}
 use borrow.Author.Needs.{needs}
 use Rattle.octets.proofs.Numbers.{numberAt-one}
 use Rattle.octets.proofs.Tests.{denied, granted}
@@ -25,7 +27,13 @@ same-length c = search needs
 
 returns : tie.Need-returns
 unfolding fitText
-returns c = (search needs, rw (← c .before .before .before .before .before .before .before .u64-at .ensures, denied (c .before .before .before .before .before .before .good-length .ensures) (c .before .before .before .before .before .if1 .taken)) (c .before .before .word .ensures))
+returns c = (
+  search needs,
+  let at-if1 = c .before .before .before .before .before in
+      let at-good-length = at-if1 .before in
+      let at-u64-at = at-good-length .before in
+      rw (← at-u64-at .u64-at .ensures, denied (at-good-length .good-length .ensures) (at-if1 .if1 .taken)) (c .before .before .word .ensures),
+)
 
 u16-at-requires : tie.Need-u16-at-requires
 u16-at-requires c κs = search needs
@@ -56,7 +64,26 @@ same-length-2 c = search needs
 
 returns-2 : tie.Need-returns-2
 unfolding fitText
-returns-2 c = (search needs, rw (← c .before .before .before .before .before .before .before .before .before .before .before .u64-at .ensures, granted (c .before .before .before .before .before .before .before .before .before .before .good-length .ensures) (c .before .before .before .before .before .before .before .before .before .if1 .left), ← c .before .before .before .before .before .before .before .before .u16-at .ensures, ← c .before .before .before .before .before .before .before .u16-at2 .ensures, numberAt-one (c .before .before .before .before .before .before .before .before .before .before .before .before .before .before .args .q .now) 0 (omega arith), ← c .before .before .before .before .before .fits2 .ensures, ← as-number) (c .before .before .with-number .ensures .1))
+returns-2 c = (
+  search needs,
+  let q = c .before .before .before .before .before .before .before .before .before .before .before .before .before .before .args .q .now in
+      let some : 0 < length q = omega arith in
+      let at-fits2 = c .before .before .before .before .before in
+      let at-u16-at2 = at-fits2 .before .before in
+      let at-u16-at = at-u16-at2 .before in
+      let at-if1 = at-u16-at .before in
+      let at-good-length = at-if1 .before in
+      let at-u64-at = at-good-length .before in
+      rw (
+        ← at-u64-at .u64-at .ensures,
+        granted (at-good-length .good-length .ensures) (at-if1 .if1 .left),
+        ← at-u16-at .u16-at .ensures,
+        ← at-u16-at2 .u16-at2 .ensures,
+        numberAt-one q 0 some,
+        ← at-fits2 .fits2 .ensures,
+        ← as-number,
+      ) (c .before .before .with-number .ensures .1),
+)
 
 pub fit-answer-spec : {M : Type 1} → statement M
 fit-answer-spec =

@@ -23,7 +23,10 @@ same-length-2 : tie.Need-same-length-2
 same-length-2 c = search needs
 
 returns-2 : tie.Need-returns-2
-returns-2 c = rw (eq-eqb _ _ (c .before .before .before .before .before .if1 .left), ← c .before .before .before .before .read .ensures .0) (c .before .before .frame-answer .ensures)
+returns-2 c =
+    let at-read = c .before .before .before .before in
+    let at-if1 = at-read .before in
+    rw (eq-eqb _ _ (at-if1 .if1 .left), ← at-read .read .ensures .0) (c .before .before .frame-answer .ensures)
 
 pub frame-answer-spec : {M : Type 1} → statement M
 frame-answer-spec =

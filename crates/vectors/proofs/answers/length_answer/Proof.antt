@@ -33,7 +33,15 @@ same-length-2 c = search needs
 
 returns-2 : tie.Need-returns-2
 unfolding lengthText
-returns-2 c = (search needs, rw (eq-eqb _ _ (c .before .before .before .before .before .before .before .before .if1 .left), ← c .before .before .before .before .before .before .before .u64-at .ensures, denied (c .before .before .before .before .before .before .good-length .ensures) (c .before .before .before .before .before .if2 .taken)) (c .before .before .word .ensures))
+returns-2 c = (
+  search needs,
+  let at-if2 = c .before .before .before .before .before in
+      let at-good-length = at-if2 .before in
+      let at-u64-at = at-good-length .before in
+      let at-if1 = at-u64-at .before in
+      rw (eq-eqb _ _ (at-if1 .if1 .left), ← at-u64-at .u64-at .ensures, denied (at-good-length .good-length .ensures) (at-if2 .if2 .taken))
+      (c .before .before .word .ensures),
+)
 
 slice-aggregate-with-number : tie.Need-slice-aggregate-with-number
 slice-aggregate-with-number c = search needs
@@ -55,7 +63,19 @@ same-length-3 c = search needs
 
 returns-3 : tie.Need-returns-3
 unfolding lengthText
-returns-3 c = (search needs, rw (eq-eqb _ _ (c .before .before .before .before .before .before .before .before .before .before .before .before .before .before .if1 .left), ← c .before .before .before .before .before .before .before .before .before .before .before .before .before .u64-at .ensures, granted (c .before .before .before .before .before .before .before .before .before .before .before .before .good-length .ensures) (c .before .before .before .before .before .before .before .before .before .before .before .if2 .left)) (rw (c .before .before .before .before .before .before .before .before .before .need .ensures, c .before .before .before .before .rest .ensures) at (behind (c .before .before .before .before .before .before .before .with-number .ensures .1) (c .before .before .number .ensures .1))))
+returns-3 c = (
+  search needs,
+  let at-rest = c .before .before .before .before in
+      let at-with-number = at-rest .before .before .before in
+      let at-need = at-with-number .before .before in
+      let at-if2 = at-need .before .before in
+      let at-good-length = at-if2 .before in
+      let at-u64-at = at-good-length .before in
+      let at-if1 = at-u64-at .before in
+      rw (eq-eqb _ _ (at-if1 .if1 .left), ← at-u64-at .u64-at .ensures, granted (at-good-length .good-length .ensures) (at-if2 .if2 .left))
+      (rw (at-need .need .ensures, at-rest .rest .ensures) at
+      (behind (at-with-number .with-number .ensures .1) (c .before .before .number .ensures .1))),
+)
 
 pub length-answer-spec : {M : Type 1} → statement M
 length-answer-spec =

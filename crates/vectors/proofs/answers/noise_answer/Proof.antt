@@ -35,7 +35,11 @@ same-length-2 c = search needs
 
 returns-2 : tie.Need-returns-2
 unfolding noiseText
-returns-2 c = rw (eq-eqb _ _ (c .before .before .before .before .before .before .before .if1 .left), ← c .before .before .before .before .before .u16-at2 .ensures, lt-ltb _ _ (c .before .before .before .before .if2 .taken)) (c .before .before .refusal2 .ensures)
+returns-2 c =
+    let at-if2 = c .before .before .before .before in
+    let at-u16-at2 = at-if2 .before in
+    let at-if1 = at-u16-at2 .before .before in
+    rw (eq-eqb _ _ (at-if1 .if1 .left), ← at-u16-at2 .u16-at2 .ensures, lt-ltb _ _ (at-if2 .if2 .taken)) (c .before .before .refusal2 .ensures)
 
 slice-aggregate-word : tie.Need-slice-aggregate-word
 slice-aggregate-word c = search needs
@@ -48,7 +52,15 @@ same-length-3 c = search needs
 
 returns-3 : tie.Need-returns-3
 unfolding noiseText
-returns-3 c = (search needs, rw (eq-eqb _ _ (c .before .before .before .before .before .before .before .before .before .if1 .left), ← c .before .before .before .before .before .before .before .u16-at2 .ensures, le-ltb _ _ (c .before .before .before .before .before .before .if2 .left), eq-eqb _ _ (c .before .before .before .before .before .if3 .taken)) (c .before .before .word .ensures))
+returns-3 c = (
+  search needs,
+  let at-if3 = c .before .before .before .before .before in
+      let at-if2 = at-if3 .before in
+      let at-u16-at2 = at-if2 .before in
+      let at-if1 = at-u16-at2 .before .before in
+      rw (eq-eqb _ _ (at-if1 .if1 .left), ← at-u16-at2 .u16-at2 .ensures, le-ltb _ _ (at-if2 .if2 .left), eq-eqb _ _ (at-if3 .if3 .taken))
+      (c .before .before .word .ensures),
+)
 
 slice-aggregate-word-2 : tie.Need-slice-aggregate-word-2
 slice-aggregate-word-2 c = search needs
@@ -64,7 +76,23 @@ same-length-4 c = search needs
 
 returns-4 : tie.Need-returns-4
 unfolding noiseText
-returns-4 c = (search needs, rw (eq-eqb _ _ (c .before .before .before .before .before .before .before .before .before .before .before .before .before .if1 .left), ← c .before .before .before .before .before .before .before .before .before .before .before .u16-at2 .ensures, ← c .before .before .before .before .before .before .before .before .before .before .before .before .u16-at .ensures, le-ltb _ _ (c .before .before .before .before .before .before .before .before .before .before .if2 .left), ne-eqb _ _ (c .before .before .before .before .before .before .before .before .before .if3 .left)) (behind (c .before .before .before .before .before .before .word2 .ensures) (c .before .before .noise-octets .ensures .1)))
+returns-4 c = (
+  search needs,
+  let at-word2 = c .before .before .before .before .before .before in
+      let at-if3 = at-word2 .before .before .before in
+      let at-if2 = at-if3 .before in
+      let at-u16-at2 = at-if2 .before in
+      let at-u16-at = at-u16-at2 .before in
+      let at-if1 = at-u16-at .before in
+      rw (
+        eq-eqb _ _ (at-if1 .if1 .left),
+        ← at-u16-at2 .u16-at2 .ensures,
+        ← at-u16-at .u16-at .ensures,
+        le-ltb _ _ (at-if2 .if2 .left),
+        ne-eqb _ _ (at-if3 .if3 .left),
+      )
+      (behind (at-word2 .word2 .ensures) (c .before .before .noise-octets .ensures .1)),
+)
 
 pub noise-answer-spec : {M : Type 1} → statement M
 noise-answer-spec =

@@ -1,4 +1,4 @@
--- `vectors::answers::noise_octets` meets its contract. What is written so far, and the digits of the octets that are left, is the whole. Assumes nothing.
+-- `vectors::answers::noise_octets` meets its contract: what is written so far, with the digits of the octets left, is the whole. Assumes nothing.
 use Prim.Native.Nat.{_-_}
 use native.Mathlib.Omega.{arith}
 use borrow.Author.Needs.{needs}
@@ -34,7 +34,9 @@ loop-less : tie.Need-loop-less Inv-loop μ-loop
 loop-less c = search needs
 
 loop-again : tie.Need-loop-again Inv-loop μ-loop
-loop-again c = sounding-more (c .before .before .before .before .before .before .loop .inv) (omega arith) (c .before .before .hex .ensures .0) (search needs) (rw (c .before .before .before .before .noise-at .ensures) at (c .before .before .hex .ensures .1))
+loop-again c =
+    sounding-more (c .before .before .before .before .before .before .loop .inv) (omega arith) (c .before .before .hex .ensures .0) (search needs)
+    (rw (c .before .before .before .before .noise-at .ensures) at (c .before .before .hex .ensures .1))
 
 same-length : tie.Need-same-length Inv-loop μ-loop
 same-length c = search needs
