@@ -182,9 +182,6 @@ counts-at t k zero i h = absurd (not-suc-le-zero h)
 counts-at t k (suc n) zero h = rw add-zero
 counts-at t k (suc n) (suc i) h = rw add-suc (counts-at t (suc k) n i (le-of-suc-le-suc h) ∙ rw suc-add)
 
-pub counts-few : (t : List ℕ) (k n i : ℕ) → i < n → getD (blockCounts t k n) i 0 ≤ length t
-counts-few t k n i h = omega (arith, counts-at t k n i h, numbers-few (suc (k + i)) 0 t)
-
 -- of no blocks, no slot has one
 pub counts-none : (k n : ℕ) → blockCounts [] k n ≡ replicate n 0
 unfolding blockCounts numbersOf

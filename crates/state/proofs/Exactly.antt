@@ -5,20 +5,20 @@ use mathlib.Core.List.{List, [], _∷_}
 use Prim.Native.Nat.{ℕ, zero, suc, _+_, _-_, _*_, _≤_, _<_}
 use native.Mathlib.Nat.{add-zero, zero-add, add-suc, suc-add}
 use native.Mathlib.Omega.{arith}
-use borrow.Author.Tests.{eq-eqb, eqb-true, eqb-false, not-true, not-false, le-ltb, ltb-false}
+use borrow.Author.Tests.{eqb-true, eqb-false, not-true, not-false, le-ltb, ltb-false}
 use lib.Dec.{ltb, eqb}
 use lib.ListN.{length, getD, take, drop, length-map}
 use lib.Seq.{length-take-le, getD-take, getD-drop}
 use Rattle.octets.specs.Choice.{if_then_else_, Decides}
 use Rattle.octets.specs.Choice.Decides.{holds, fails}
 use Rattle.octets.specs.Each.{each}
-use Rattle.octets.proofs.Decide.{decides-same, told-true, told-false, tells, decides-by, decides-self, decides-leb, decides-ltb, decides-eqb, decides-then, _and_, decides-not, decides-if, decides-unless, decides-below, decides-some, decides-apart}
+use Rattle.octets.proofs.Decide.{decides-same, told-true, tells, decides-by, decides-self, decides-leb, decides-ltb, decides-eqb, decides-then, _and_, decides-not, decides-if, decides-unless, decides-below, decides-some, decides-apart}
 use Rattle.octets.specs.Buffer.{allZero}
 use Rattle.octets.proofs.Below.{Below, Some, Apart, neither, below-none, below-cons, below-tail, some-none, apart-none, apart-cons, apart-head, apart-tail}
 use Rattle.octets.proofs.Each.{decides-each}
 use Rattle.octets.proofs.Lists.{whole-part}
-use Rattle.octets.proofs.Tests.{and-both, true-unless}
-use Rattle.octets.proofs.Zero.{blank-at}
+use Rattle.octets.proofs.Tests.{true-unless}
+use Rattle.octets.proofs.Zero.{all-blank, blank-at}
 use Rattle.packet.specs.declared.Packet.{Packet}
 use Rattle.packet.specs.declared.Look.the-variants.{Bad, Good}
 use Rattle.packet.specs.Header.{lookOf, packetOf, sizeOf, bad}
@@ -118,8 +118,8 @@ slot-exactly s n k =
     (λ e.
     decides-same
     (λ (((((p, (i, low, here)), a), b), c), m).
-    record { accepted = p; watched = (i, omega arith, here); application = a; length = b; count = c; places = m })
-    (λ h. (((((h .accepted, (h .watched .0, omega arith, h .watched .2)), h .application), h .length), h .count), h .places))
+    record { accepted = p; watched = (i, omega arith, here); application = a; bits = b; count = c; places = m })
+    (λ h. (((((h .accepted, (h .watched .0, omega arith, h .watched .2)), h .application), h .bits), h .count), h .places))
     (decides-leb (x .accepted) (needOf x) and among-exactly (x .channel .0) (named s) and decides-leb (x .application .0) 2015
     and decides-self (goodLength (x .bits))
     and decides-ltb (x .count .0) 16384
@@ -278,23 +278,15 @@ module _ {s : Station} (z : Sized s) where
   pub sound-yes : isSound s ≡ true → Sound s
   sound-yes = told-true (sound-exactly s z)
 
-  pub sound-no : isSound s ≡ false → Sound s → ⊥
-  sound-no = told-false (sound-exactly s z)
-
   pub sound-true : Sound s → isSound s ≡ true
   sound-true = tells (sound-exactly s z)
 
 -- a desk's octets: "zeros after them"
-all-blank : (xs : List ℕ) → ((i : ℕ) → getD xs i 0 ≡ 0) → allZero xs ≡ true
-unfolding allZero
-all-blank [] f = refl
-all-blank (x ∷ xs) f = and-both (eq-eqb x 0 (f 0)) (all-blank xs (λ i. f (suc i)))
-
 zeros-exactly : (h : ℕ) (d : List ℕ) → Decides ((i : ℕ) → h ≤ i → getD d i 0 ≡ 0) (allZero (drop h d))
 zeros-exactly h d =
     decides-by (allZero (drop h d))
     (λ e i l. let k : h + (i - h) ≡ i = omega arith in rw k at (sym (getD-drop h d (i - h) 0) ∙ blank-at (drop h d) (i - h) e))
-    (λ e f. true≢false (sym (all-blank (drop h d) (λ i. getD-drop h d i 0 ∙ f (h + i) (omega arith))) ∙ e))
+    (λ e f. true≢false (sym (all-blank (drop h d) (λ i l. getD-drop h d i 0 ∙ f (h + i) (omega arith))) ∙ e))
 
 -- "six or more held octets read as a good packet header whose packet is longer than what is held"
 longer-exactly : (h : ℕ) (p : Packet) (b : Bool) → Decides ((b ≡ false) × (h < sizeOf p)) (longer h (if b then Bad else Good p))
@@ -342,9 +334,6 @@ desks-exactly s desks z S l =
 module _ {s : Station} (desks : List ℕ) (z : Sized s) (S : Sound s) (l : length desks ≡ 8198 * s .channels) where
   pub desks-yes : areDesksSound s desks ≡ true → DesksSound s desks
   desks-yes = told-true (desks-exactly s desks z S l)
-
-  pub desks-no : areDesksSound s desks ≡ false → DesksSound s desks → ⊥
-  desks-no = told-false (desks-exactly s desks z S l)
 
   pub desks-true : DesksSound s desks → areDesksSound s desks ≡ true
   desks-true = tells (desks-exactly s desks z S l)

@@ -2,6 +2,7 @@
 -- the types of slots; and of the loops that decide it, turn by turn.
 pub mod Blocks
 pub mod Exactly
+pub mod Plainly
 pub mod Places
 pub mod Fits
 pub mod Counts

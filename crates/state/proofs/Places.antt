@@ -16,7 +16,7 @@ use Rattle.state.specs.Slots.{slotAt, noFile, held, needOf}
 use Rattle.state.specs.Blocks.{table, freeBlocks, blocksOf, Stands, needs, room}
 use Rattle.state.specs.Sound.{Sized, Sound}
 use Rattle.state.specs.Decision.{blockCounts}
-use Rattle.state.proofs.Blocks.{rank, rank-low, rank-here, rank-of, entry-low, entry-here, numbers-few, total, length-counts, counts-at, counting}
+use Rattle.state.proofs.Blocks.{rank, rank-low, rank-here, rank-of, entry-low, entry-here, total, length-counts, counts-at, counting}
 use Rattle.state.proofs.Exactly.{table-length, owner-held, owner-most, free-owns-none}
 
 -- a block that stands somewhere is a block of the store, belongs to that slot, and has its rank for its place
@@ -80,11 +80,6 @@ module _ {s : Station} (z : Sized s) (S : Sound s) where
       → (b : ℕ) × Stands s b k i × ((b′ : ℕ) → Stands s b′ k i → b′ ≡ b)
   places-once-each k l e i m =
       (getD (blocksOf s k) i 0, record { low = omega (arith, S .files k l e .places); here = refl }, λ b h. sym (h .here))
-
-  pub need-fits : (k : ℕ) → k < 32 → held (slotAt s k) ≡ true → (needOf (slotAt s k) ≤ s .blocks) × (needOf (slotAt s k) ≤ 4096)
-  need-fits k l e =
-      let few : needOf (slotAt s k) ≤ s .blocks = omega (arith, owners, numbers-few (suc k) 0 (table s), S .files k l e .places) in
-      (few, omega (arith, S .setUp .least))
 
   -- held slots own what they need, and free ones nothing
   slot-owns : (k : ℕ) → k < 32 → length (blocksOf s k) ≡ (if held (slotAt s k) then needOf (slotAt s k) else 0)

@@ -1,9 +1,10 @@
 -- Soundness as a test. That it answers true exactly if the state is sound is proved (proofs/Exactly.antt). Assumes nothing.
+use mathlib.Core.Path.{_≡_}
 use mathlib.Core.Bool.{Bool, true, false, not, _&&_, _||_}
 use mathlib.Core.List.{List, [], _∷_}
-use Prim.Native.Nat.{ℕ, zero, suc}
+use Prim.Native.Nat.{ℕ, zero, suc, _<_}
 use lib.Dec.{leb, ltb, eqb}
-use lib.ListN.{length, take, drop}
+use lib.ListN.{length, getD, take, drop}
 use Rattle.octets.specs.Choice.{if_then_else_}
 use Rattle.octets.specs.Buffer.{allZero}
 use Rattle.octets.specs.Each.{each}
@@ -39,6 +40,14 @@ setUpSound channels names blocks = leb channels 8 && goodChannels names && leb 1
 abbrev pub isOwner : ℕ → Bool
 isOwner o = leb o 32
 
+-- a tally of a table: for each octet, how many entries are that octet
+abbrev pub Tallies : List ℕ → List ℕ → Type 0
+Tallies t tally = (o : ℕ) → o < 256 → getD tally o 0 ≡ length (numbersOf o 0 t)
+
+-- "a free slot is all zero", and owns no block
+abbrev pub freeSound : ℕ → Slot → Bool
+freeSound n x = eqb (x .channel .0) 0 && eqb (x .application .0) 0 && eqb (x .bits) 0 && eqb (x .count .0) 0 && eqb n 0
+
 -- a slot that is the owner of n blocks
 unfoldable pub slotSound : List ℕ → ℕ → Slot → Bool
 slotSound watched n x =
@@ -47,7 +56,7 @@ slotSound watched n x =
     leb (x .accepted) (needOf x) && among (x .channel .0) watched && leb (x .application .0) 2015 && goodLength (x .bits)
     && ltb (x .count .0) 16384
     && eqb n (needOf x)
-    else eqb (x .channel .0) 0 && eqb (x .application .0) 0 && eqb (x .bits) 0 && eqb (x .count .0) 0 && eqb n 0
+    else freeSound n x
 
 -- how many entries of a table are owned by slots k, k + 1, .., for n slots
 unfoldable pub blockCounts : List ℕ → ℕ → ℕ → List ℕ
@@ -64,6 +73,10 @@ slotsSound watched (n ∷ ns) (x ∷ xs) = slotSound watched n x && slotsSound w
 unfoldable pub twinIn : Slot → List Slot → Bool
 twinIn x [] = false
 twinIn x (y ∷ ys) = incomplete y && ofPair (x .channel) (x .application) y || twinIn x ys
+
+-- a slot that is the owner of n blocks, and of whose pair no other incomplete file is among the slots behind it
+abbrev pub soundAlone : List ℕ → ℕ → Slot → List Slot → Bool
+soundAlone watched n x behind = slotSound watched n x && not (incomplete x && twinIn x behind)
 
 unfoldable pub noTwins : List Slot → Bool
 noTwins [] = true

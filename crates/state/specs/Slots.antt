@@ -3,13 +3,14 @@ use mathlib.Core.Bool.{Bool, false, not, _&&_}
 use mathlib.Core.List.{List, map}
 use Prim.Native.Nat.{ℕ}
 use lib.Dec.{eqb}
-use lib.ListN.{getD, take, replicate}
+use lib.ListN.{getD, set, take, replicate}
 use Rattle.frame.specs.declared.Channel.{Channel}
 use Rattle.packet.specs.declared.Application.{Application}
 use Rattle.transport.specs.Length.{need}
 use Rattle.state.specs.declared.Slot.{Slot}
 use Rattle.state.specs.declared.Desk.{Desk}
 use Rattle.state.specs.declared.Station.{Station}
+use Rattle.state.specs.declared.Head.{Head}
 
 -- "a free slot is all zero"
 abbrev pub noFile : Slot
@@ -50,6 +51,35 @@ number c = c .0
 -- the numbers of the channels watched, "in the order named"
 abbrev pub named : Station → List ℕ
 named s = map number (take (s .channels) (s .watched))
+
+-- a state but for its files: what no packet changes
+abbrev pub headOf : Station → Head
+headOf s =
+    record {
+      spacecraft = s .spacecraft;
+      channels = s .channels;
+      watched = s .watched;
+      desks = s .desks;
+      blocks = s .blocks;
+    }
+
+-- the same with another desk i
+abbrev pub onDesk : Head → ℕ → Desk → Head
+onDesk h i d =
+    record { spacecraft = h .spacecraft; channels = h .channels; watched = h .watched; desks = set (h .desks) i d; blocks = h .blocks }
+
+-- the state of the parts: its head, the blocks' owners and the slots
+abbrev pub stationOf : Head → List ℕ → List Slot → Station
+stationOf h owners slots =
+    record {
+      spacecraft = h .spacecraft;
+      channels = h .channels;
+      watched = h .watched;
+      desks = h .desks;
+      blocks = h .blocks;
+      owner = owners;
+      slots = slots;
+    }
 
 -- "a refused set-up's state is all zero, which isn't sound"
 abbrev pub allZeroState : Station

@@ -34,9 +34,9 @@ pub record HeldSlot (s : Station) (k : ℕ) : Type 0 where
   pub accepted : slotAt s k .accepted ≤ needOf (slotAt s k)
   pub watched : (i : ℕ) × (i < s .channels) × (getD (named s) i 0 ≡ slotAt s k .channel .0)
   pub application : slotAt s k .application .0 ≤ 2015
-  pub length : goodLength (slotAt s k .bits) ≡ true
+  pub bits : goodLength (slotAt s k .bits) ≡ true
   pub count : slotAt s k .count .0 < 16384
-  pub places : lib.ListN.length (blocksOf s k) ≡ needOf (slotAt s k)
+  pub places : length (blocksOf s k) ≡ needOf (slotAt s k)
 
 -- a desk as the state has it: "each desk holds 0 to 8,197 octets, .. a last frame counter below 2^24, and, where no frame was seen,
 -- counter 0 and nothing held"

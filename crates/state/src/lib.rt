@@ -16,8 +16,10 @@ ghost use mathlib.Core.List.{map};
 ghost use Prim.Native.Nat.{_+_, _*_, _≤_, _<_};
 ghost use lib.ListN.{length, take, drop};
 ghost use Rattle.octets.specs.Each.{each};
-ghost use Rattle.state.specs.Slots.{noFile, held, needOf, complete, incomplete, ofPair, number, allZeroState};
-ghost use Rattle.state.specs.Decision.{among as amongOf, goodChannels, setUpSound, isOwner, slotSound, blockCounts, slotsSound, twinIn, noTwins, deskHolds, isSound, octetsHeld, desksHeld};
+ghost use Rattle.octets.specs.Number.{part};
+ghost use Rattle.octets.specs.Buffer.{allZero};
+ghost use Rattle.state.specs.Slots.{noFile, held, needOf, complete, incomplete, ofPair, number, headOf, stationOf, allZeroState};
+ghost use Rattle.state.specs.Decision.{among as amongOf, goodChannels, setUpSound, isOwner, Tallies, freeSound, slotSound, blockCounts, slotsSound, noTwins, deskHolds, isSound, octetsHeld, desksHeld};
 
 // A file slot. It is held exactly if a packet was accepted for it; the need follows from the length, and it is complete exactly if as many
 // packets were accepted as it needs blocks. No flag says what these numbers say already.
@@ -29,21 +31,24 @@ pub struct Slot {
     pub accepted: u16,
 }
 
+// "a free slot is all zero"
+const NO_FILE: Slot = Slot {
+    channel: Channel(0),
+    application: Application(0),
+    bits: 0,
+    count: Count(0),
+    accepted: 0,
+};
+
+// All slots free, as an array that is there: one made slot by slot splits the state in pieces, and each copy of it with them.
+const NO_FILES: [Slot; Station::SLOTS] = [NO_FILE; Station::SLOTS];
+
 impl Slot {
     // A free slot.
     pub fn none() -> Slot
         ensures { λ r. ⌜ r ≡ noFile ⌝ }
     {
-        let channel = Channel(0);
-        let application = Application(0);
-        let count = Count(0);
-        Slot {
-            channel: channel,
-            application: application,
-            bits: 0,
-            count: count,
-            accepted: 0,
-        }
+        NO_FILE
     }
 
     pub fn is_held(self) -> bool
@@ -76,16 +81,16 @@ impl Slot {
         self.accepted as u64 != self.need()
     }
 
-    // Whether the slot's file is of this channel and application.
+    // Whether the slot's file is of this channel and application: the application is tried first, since files of one channel are many.
     pub fn is_of(self, channel: Channel, application: Application) -> bool
         ensures { λ r. ⌜ r ≡ ofPair channel application self ⌝ }
     {
-        let c = self.channel;
-        if c.0 != channel.0 {
+        let a = self.application;
+        if a.0 != application.0 {
             return false;
         }
-        let a = self.application;
-        a.0 == application.0
+        let c = self.channel;
+        c.0 == channel.0
     }
 
     // Whether the slot has an incomplete file of this channel and application. The pair is tried first: the need takes a division.
@@ -144,6 +149,15 @@ pub struct Station {
     pub slots: [Slot; Station::SLOTS],
 }
 
+// A state but for its files: what no packet changes.
+pub struct Head {
+    pub spacecraft: u8,
+    pub channels: u8,
+    pub watched: [Channel; Channel::MOST],
+    pub desks: [Desk; Channel::MOST],
+    pub blocks: u16,
+}
+
 impl Station {
     pub const SLOTS: usize = 32;
     // A block's owner is 0 for none, or a slot's number and 1.
@@ -163,8 +177,8 @@ impl Station {
             seen: false,
             counter: counter,
         };
-        let slot = Slot::none();
         let channel = Channel(0);
+        let slots = NO_FILES;
         Station {
             spacecraft: 0,
             channels: 0,
@@ -172,7 +186,21 @@ impl Station {
             desks: [desk; Channel::MOST],
             blocks: 0,
             owner: [0; Station::MOST_BLOCKS as usize],
-            slots: [slot; Station::SLOTS],
+            slots: slots,
+        }
+    }
+
+    pub fn head(self) -> Head
+        ensures { λ r. ⌜ r ≡ headOf self ⌝ }
+    {
+        let watched = self.watched;
+        let desks = self.desks;
+        Head {
+            spacecraft: self.spacecraft,
+            channels: self.channels,
+            watched: watched,
+            desks: desks,
+            blocks: self.blocks,
         }
     }
 }
@@ -230,6 +258,86 @@ fn numbers(watched: [Channel; Channel::MOST]) -> [u8; Channel::MOST]
     out
 }
 
+// An owner is an octet.
+const TALLIES: usize = 256;
+
+// One block more in a tally of the b blocks before it. The tally is lent: by value it would be copied for each block.
+fn tally_block(owner: &[u8], b: usize, tally: &mut [u16])
+    requires { ⌜ (b < 4096) × (b < length (now owner)) × (length (now tally) ≡ 256) ⌝ }
+    requires { ⌜ Tallies (take b (now owner)) (now tally) ⌝ }
+    ensures { λ r. ⌜ Tallies (take (b + 1) (now (owner .entry))) (now (tally .exit)) ⌝ }
+{
+    let o = owner[b] as usize;
+    tally[o] = tally[o] + 1;
+}
+
+// Four blocks more, with no test between them.
+fn tally_four(owner: &[u8], b: usize, tally: &mut [u16])
+    requires { ⌜ (b + 4 ≤ 4096) × (b + 4 ≤ length (now owner)) × (length (now tally) ≡ 256) ⌝ }
+    requires { ⌜ Tallies (take b (now owner)) (now tally) ⌝ }
+    ensures { λ r. ⌜ Tallies (take (b + 4) (now (owner .entry))) (now (tally .exit)) ⌝ }
+{
+    tally_block(owner, b, tally);
+    tally_block(owner, b + 1, tally);
+    tally_block(owner, b + 2, tally);
+    tally_block(owner, b + 3, tally);
+}
+
+// The first blocks of n, eight a turn, in a tally of none; how many they are: the turns end where fewer than eight are left.
+fn tally_eights(owner: &[u8], n: usize, tally: &mut [u16]) -> usize
+    requires { ⌜ (n ≤ 4096) × (n ≤ length (now owner)) × (length (now tally) ≡ 256) ⌝ }
+    requires { ⌜ Tallies (take 0 (now owner)) (now tally) ⌝ }
+    ensures { λ r. ⌜ (r ≤ n) × Tallies (take r (now (owner .entry))) (now (tally .exit)) ⌝ }
+{
+    let mut b: usize = 0;
+    while n - b >= 8 {
+        tally_four(owner, b, tally);
+        tally_four(owner, b + 4, tally);
+        b += 8;
+    }
+    b
+}
+
+// How often each octet stands among the first n owners. No block is tested: whether an octet is an owner is asked of the tally.
+fn tally_owners(owner: &[u8], n: usize) -> [u16; TALLIES]
+    requires { ⌜ (n ≤ 4096) × (n ≤ length (now owner)) ⌝ }
+    ensures { λ r. ⌜ Tallies (take n (now (owner .entry))) r ⌝ }
+{
+    let mut tally = [0u16; TALLIES];
+    let mut b = tally_eights(owner, n, &mut tally);
+    while b < n {
+        tally_block(owner, b, &mut tally);
+        b += 1;
+    }
+    tally
+}
+
+// Whether no octet past the last owner was counted.
+fn no_strays(tally: [u16; TALLIES]) -> bool
+    ensures { λ r. ⌜ r ≡ allZero (part 33 223 tally) ⌝ }
+{
+    let mut any: u16 = 0;
+    let mut o = Station::LAST_OWNER as usize + 1;
+    while o < TALLIES {
+        any = any | tally[o];
+        o += 1;
+    }
+    any == 0
+}
+
+// The slots' part of a tally.
+fn slots_part(tally: [u16; TALLIES]) -> [u16; Station::SLOTS]
+    ensures { λ r. ⌜ r ≡ part 1 32 tally ⌝ }
+{
+    let mut counts = [0u16; Station::SLOTS];
+    let mut k: usize = 0;
+    while k < Station::SLOTS {
+        counts[k] = tally[k + 1];
+        k += 1;
+    }
+    counts
+}
+
 // How many blocks each slot owns, and whether each block's owner is a slot or none.
 struct Owners {
     good: bool,
@@ -241,63 +349,36 @@ fn count_owners(owner: &[u8], n: usize) -> Owners
     ensures { λ r. ⌜ r .good ≡ each isOwner (take n (now (owner .entry))) ⌝ }
     ensures { λ r. ⌜ r .counts ≡ blockCounts (take n (now (owner .entry))) 0 32 ⌝ }
 {
-    let mut good = true;
-    let mut counts = [0u16; Station::SLOTS];
-    let mut b: usize = 0;
-    while b < n {
-        let o = owner[b];
-        if o == 0 {
-            b += 1;
-        } else {
-            if o > Station::LAST_OWNER {
-                good = false;
-                b += 1;
-            } else {
-                let k = (o - 1) as usize;
-                counts[k] = counts[k] + 1;
-                b += 1;
-            }
-        }
-    }
+    let tally = tally_owners(owner, n);
+    let good = no_strays(tally);
+    let counts = slots_part(tally);
     Owners {
         good: good,
         counts: counts,
     }
 }
 
-// A slot that owns n blocks.
-fn slot_sound(channels: &[u8], n: u16, x: Slot) -> bool
-    ensures { λ r. ⌜ r ≡ slotSound (now (channels .entry)) n x ⌝ }
+// A free slot that owns n blocks. One test for four numbers: most slots are free.
+fn free_sound(n: u16, x: Slot) -> bool
+    ensures { λ r. ⌜ r ≡ freeSound n x ⌝ }
 {
     let channel = x.channel;
     let application = x.application;
     let count = x.count;
-    if x.accepted == 0 {
-        if channel.0 != 0 {
-            return false;
-        }
-        if application.0 != 0 {
-            return false;
-        }
-        if x.bits != 0 {
-            return false;
-        }
-        if count.0 != 0 {
-            return false;
-        }
-        return n == 0;
+    if ((channel.0 as u16 | application.0) | (count.0 | n)) != 0 {
+        return false;
     }
-    held_sound(channels, n, x)
+    x.bits == 0
 }
 
-fn held_sound(channels: &[u8], n: u16, x: Slot) -> bool
-    requires { ⌜ held x ≡ true ⌝ }
+// A held slot that owns n blocks and needs so many.
+fn held_sound(channels: &[u8], n: u16, x: Slot, need: u64) -> bool
+    requires { ⌜ (held x ≡ true) × (need ≡ needOf x) ⌝ }
     ensures { λ r. ⌜ r ≡ slotSound (now (channels .entry)) n x ⌝ }
 {
     let channel = x.channel;
     let application = x.application;
     let count = x.count;
-    let need = x.need();
     if x.accepted as u64 > need {
         return false;
     }
@@ -317,13 +398,25 @@ fn held_sound(channels: &[u8], n: u16, x: Slot) -> bool
     n as u64 == need
 }
 
-// Each slot, with the number of its blocks.
+// A slot that owns n blocks.
+fn slot_sound(channels: &[u8], n: u16, x: Slot) -> bool
+    ensures { λ r. ⌜ r ≡ slotSound (now (channels .entry)) n x ⌝ }
+{
+    if x.accepted == 0 {
+        return free_sound(n, x);
+    }
+    let need = x.need();
+    held_sound(channels, n, x, need)
+}
+
+// Each slot, with the number of its blocks, and no two incomplete files of one pair: one pass. The slots behind are looked through here, since
+// a call would copy the slots for each file.
 fn slots_sound(
     channels: &[u8],
     counts: [u16; Station::SLOTS],
     slots: [Slot; Station::SLOTS],
 ) -> bool
-    ensures { λ r. ⌜ r ≡ slotsSound (now (channels .entry)) counts slots ⌝ }
+    ensures { λ r. ⌜ r ≡ (slotsSound (now (channels .entry)) counts slots && noTwins slots) ⌝ }
 {
     let mut k: usize = 0;
     while k < Station::SLOTS {
@@ -331,39 +424,16 @@ fn slots_sound(
         if !slot_sound(channels, counts[k], x) {
             return false;
         }
-        k += 1;
-    }
-    true
-}
-
-// Whether an incomplete file of the same pair is in a slot from number from on.
-fn twin_in(slots: [Slot; Station::SLOTS], from: usize, x: Slot) -> bool
-    requires { ⌜ from ≤ 32 ⌝ }
-    ensures { λ r. ⌜ r ≡ twinIn x (drop from slots) ⌝ }
-{
-    let mut k = from;
-    while k < Station::SLOTS {
-        let y = slots[k];
-        let channel = x.channel;
-        let application = x.application;
-        if y.is_incomplete_of(channel, application) {
-            return true;
-        }
-        k += 1;
-    }
-    false
-}
-
-// No two incomplete files of one pair.
-fn no_twins(slots: [Slot; Station::SLOTS]) -> bool
-    ensures { λ r. ⌜ r ≡ noTwins slots ⌝ }
-{
-    let mut k: usize = 0;
-    while k < Station::SLOTS {
-        let x = slots[k];
         if x.is_incomplete() {
-            if twin_in(slots, k + 1, x) {
-                return false;
+            let channel = x.channel;
+            let application = x.application;
+            let mut j = k + 1;
+            while j < Station::SLOTS {
+                let y = slots[j];
+                if y.is_incomplete_of(channel, application) {
+                    return false;
+                }
+                j += 1;
             }
             k += 1;
         } else {
@@ -406,30 +476,35 @@ fn set_up_sound(channels: u8, names: [u8; Channel::MOST], blocks: u16) -> bool
     blocks <= Station::MOST_BLOCKS
 }
 
-// What the state alone says: one pass over the blocks.
-pub fn is_sound(s: Station) -> bool
-    ensures { λ r. ⌜ r ≡ isSound s ⌝ }
+// What the state alone says, in its parts: one pass over the blocks.
+pub fn are_parts_sound(head: Head, owner: &[u8], slots: [Slot; Station::SLOTS]) -> bool
+    requires { ⌜ length (now owner) ≡ 4096 ⌝ }
+    ensures { λ r. ⌜ r ≡ isSound (stationOf head (now (owner .entry)) slots) ⌝ }
 {
-    let watched = s.watched;
+    let watched = head.watched;
     let names = numbers(watched);
-    if !set_up_sound(s.channels, names, s.blocks) {
+    if !set_up_sound(head.channels, names, head.blocks) {
         return false;
     }
-    let n = s.channels as usize;
-    let owners = count_owners(&s.owner, s.blocks as usize);
+    let n = head.channels as usize;
+    let owners = count_owners(owner, head.blocks as usize);
     if !owners.good {
         return false;
     }
     let counts = owners.counts;
-    let slots = s.slots;
     if !slots_sound(&names[0..n], counts, slots) {
         return false;
     }
-    if !no_twins(slots) {
-        return false;
-    }
-    let desks = s.desks;
-    desks_hold(desks, s.channels)
+    let desks = head.desks;
+    desks_hold(desks, head.channels)
+}
+
+pub fn is_sound(s: Station) -> bool
+    ensures { λ r. ⌜ r ≡ isSound s ⌝ }
+{
+    let head = s.head();
+    let slots = s.slots;
+    are_parts_sound(head, &s.owner, slots)
 }
 
 // The octets of one desk, of which so many are held.

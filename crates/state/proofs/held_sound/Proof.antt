@@ -1,4 +1,4 @@
--- `held_sound` meets its contract, by its tests in the paper's order and the contracts of `need`, `among`, `good_length` and `Count::checked`.
+-- `held_sound` meets its contract, by its tests in the paper's order and the contracts of `among`, `good_length` and `Count::checked`.
 -- Assumes nothing.
 use mathlib.Core.Path.{_≡_, sym}
 use mathlib.Core.Bool.{true, false}
@@ -47,9 +47,6 @@ module _ (channels : List ℕ) (n : ℕ) (x : Slot) (h : held x ≡ true) where
           unfolding slotSound
           counted e l = rw (h, le-leb _ _ few, watched, le-leb _ _ file, long, lt-ltb _ _ l, e)
 
-need-requires : tie.Need-need-requires
-need-requires c κs = search needs
-
 cast-if1 : tie.Need-cast-if1
 cast-if1 c = search needs
 
@@ -94,7 +91,6 @@ pub held-sound-spec : {M : Type 1} → statement M
 held-sound-spec =
     tie.close
     (tie.spec
-    need-requires
     cast-if1
     returns
     among-requires

@@ -1,39 +1,39 @@
--- `slot_sound` meets its contract: a free slot by its tests, a held one by the contract of `held_sound`. Assumes nothing.
-use borrow.Author.Tests.{ne-eqb}
-use Rattle.octets.proofs.Tests.{tests}
+-- `slot_sound` meets its contract: a free slot by that of `free_sound`, a held one by that of `held_sound`. Assumes nothing.
+use mathlib.Core.Path.{_≡_, sym, _∙_}
+use mathlib.Core.Bool.{true}
+use mathlib.Core.List.{List}
+use Prim.Native.Nat.{ℕ}
+use borrow.Author.Needs.{needs}
+use borrow.Author.Tests.{eq-eqb, ne-eqb}
+use Rattle.state.specs.declared.Slot.{Slot}
 use Rattle.state.specs.Slots.{held}
-use Rattle.state.specs.Decision.{slotSound}
+use Rattle.state.specs.Decision.{freeSound, slotSound}
 use Rattle.state.proofs.slot_sound.Statement.{statement}
 use Rattle.state.proofs.slot_sound.Tie as tie
 
+is-held : (x : Slot) → (x .accepted ≡ 0 → ⊥) → held x ≡ true
+unfolding held
+is-held x f = rw (ne-eqb _ _ f)
+
+is-free : (channels : List ℕ) (n : ℕ) (x : Slot) → x .accepted ≡ 0 → slotSound channels n x ≡ freeSound n x
+unfolding slotSound held
+is-free channels n x e = rw (eq-eqb _ _ e)
+
+free-sound-requires : tie.Need-free-sound-requires
+free-sound-requires c κs = search needs
+
 returns : tie.Need-returns
-unfolding slotSound held
-returns c = search tests
+returns c = c .free-sound .ensures ∙ sym (is-free _ _ _ (c .before .if1 .taken))
 
-returns-2 : tie.Need-returns-2
-unfolding slotSound held
-returns-2 c = search tests
-
-returns-3 : tie.Need-returns-3
-unfolding slotSound held
-returns-3 c = search tests
-
-returns-4 : tie.Need-returns-4
-unfolding slotSound held
-returns-4 c = search tests
-
-returns-5 : tie.Need-returns-5
-unfolding slotSound held
-returns-5 c = search tests
+need-requires : tie.Need-need-requires
+need-requires c κs = search needs
 
 held-sound-requires : tie.Need-held-sound-requires
-unfolding held
-held-sound-requires c κs = rw (ne-eqb _ _ (c .if1 .left))
+held-sound-requires c κs = (is-held _ (c .before .if1 .left), c .need .ensures)
 
-returns-6 : tie.Need-returns-6
-returns-6 c = c .held-sound .ensures
+returns-2 : tie.Need-returns-2
+returns-2 c = search needs
 
 pub slot-sound-spec : {M : Type 1} → statement M
 slot-sound-spec =
-    tie.close
-    (tie.spec returns returns-2 returns-3 returns-4 returns-5 held-sound-requires returns-6)
+    tie.close (tie.spec free-sound-requires returns need-requires held-sound-requires returns-2)

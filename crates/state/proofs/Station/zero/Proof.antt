@@ -1,13 +1,10 @@
--- `Station::zero` meets its contract, by that of `Slot::none`. Assumes nothing.
-use borrow.Author.Needs.{needs}
+-- `Station::zero` meets its contract. Assumes nothing.
+use mathlib.Core.Path.{refl}
 use Rattle.state.proofs.Station.zero.Statement.{statement}
 use Rattle.state.proofs.Station.zero.Tie as tie
 
-none-requires : tie.Need-none-requires
-none-requires c κs = search needs
-
 returns : tie.Need-returns
-returns c = rw (c .none .ensures)
+returns c = refl
 
 pub zero-spec : {M : Type 1} → statement M
-zero-spec = tie.close (tie.spec none-requires returns)
+zero-spec = tie.close (tie.spec returns)
