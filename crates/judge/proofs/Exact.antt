@@ -8,7 +8,6 @@ use Prim.Native.Nat.{ℕ, _≤_, _<_}
 use borrow.Author.Tests.{eqb-true, eqb-false}
 use lib.Dec.{eqb}
 use Rattle.octets.specs.Choice.{if_then_else_}
-use Rattle.crc.specs.Crc.{crcOf}
 use Rattle.frame.specs.declared.Channel.{Channel}
 use Rattle.packet.specs.Header.{packetOf}
 use Rattle.transport.specs.declared.Begun.the-variants.{Wrong, Right}
@@ -21,8 +20,8 @@ use Rattle.state.specs.Blocks.{room}
 use Rattle.room.specs.declared.Found.{Found}
 use Rattle.room.specs.declared.Found.the-variants.{At, Nothing}
 use Rattle.room.specs.Find.{freeSlot, fileOf}
-use Rattle.judge.specs.Event.{Event, of, at, Among}
-use Rattle.judge.specs.Judge.{Judged, dataOf, checkOf, begins, goesOn, judged}
+use Rattle.events.specs.Event.{Event, of, at, Among}
+use Rattle.judge.specs.Judge.{Judged, dataOf, isIntact, begins, goesOn, judged}
 use Rattle.judge.specs.Packets.{Undamaged, Starting, Starts}
 use Rattle.judge.proofs.Parts.{
   opens-as,
@@ -62,7 +61,7 @@ pub record GoesOn (c : Channel) (s : Station) (p : List ℕ) (k : ℕ) : Type 0 
 
 -- event n is given for slot k, or for slot 0 where an event carries no slot
 pub data Given (c : Channel) (s : Station) (p : List ℕ) : ℕ → ℕ → Type 0 where
-  wrong-check : packetOf p .application .0 ≤ 2015 → eqb (crcOf (dataOf p)) (checkOf p) ≡ false → Given c s p 4 0
+  wrong-check : packetOf p .application .0 ≤ 2015 → isIntact p ≡ false → Given c s p 4 0
   no-file : Undamaged p → (Starting (packetOf p) → ⊥) → fileOf s c (packetOf p .application) ≡ Nothing → Given c s p 5 0
   abandoned : {k : ℕ} → Ending c s p k → Given c s p 6 k
   wrong-start : Undamaged p → Starting (packetOf p) → begunOf (packetOf p .flags) (dataOf p) ≡ Wrong → Given c s p 7 0

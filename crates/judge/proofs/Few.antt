@@ -8,7 +8,7 @@ use Rattle.octets.proofs.Lists.{if-cases}
 use Rattle.frame.specs.declared.Channel.{Channel}
 use Rattle.packet.specs.declared.Packet.{Packet}
 use Rattle.state.specs.declared.Station.{Station}
-use Rattle.judge.specs.Event.{Event, at}
+use Rattle.events.specs.Event.{Event, at}
 use Rattle.judge.specs.Judge.{Judged, judged}
 use Rattle.judge.specs.Contract.{Whole}
 use Rattle.judge.proofs.Parts.{openEvents, whole-smallest, whole-checked, Begins, Judges, judges-as}

@@ -1,54 +1,60 @@
--- What the functions learn from the calls that look for something: what a `let .. else` leaves is the variant's tag, a search goes over the
--- slots of the state, and a header read is the packet's. Assumes nothing.
-use mathlib.Core.Path.{_≡_, refl, sym, ap, _∙_}
-use mathlib.Core.Bool.{Bool, true, false, _||_}
-use mathlib.Core.Logic.{_⊎_}
+-- What the functions learn from what was decided: a place that was found, a file that was found, a header that was read. Assumes nothing.
+use mathlib.Core.Path.{_≡_, ap}
+use mathlib.Core.Bool.{false}
 use mathlib.Core.List.{List}
 use Prim.Native.Nat.{ℕ, _≤_, _<_}
 use native.Mathlib.Omega.{arith}
-use lib.Dec.{eqb}
-use lib.ListN.{length}
-use denote.Enum.Declared.{tagOf}
-use Rattle.octets.proofs.Decide.{told-true, told-false, decides-eqb, decides-or}
+use lib.ListN.{length, set}
 use Rattle.frame.specs.declared.Channel.{Channel}
 use Rattle.packet.specs.declared.Application.{Application}
 use Rattle.packet.specs.declared.Packet.{Packet}
 use Rattle.packet.specs.Header.{packetOf}
 use Rattle.packet.proofs.Looks.{look-good}
-use Rattle.transport.specs.declared.Begun.{Begun}
-use Rattle.transport.specs.declared.Begun.the-variants.{Wrong, Right}
-use Rattle.transport.proofs.Begun as begun
+use Rattle.transport.specs.declared.Transport.{Transport}
+use Rattle.transport.specs.Length.{need}
+use Rattle.transport.specs.Shape.{begunOf}
 use Rattle.state.specs.declared.Station.{Station}
-use Rattle.room.specs.declared.Found.{Found}
-use Rattle.room.specs.declared.Found.the-variants.{At, Nothing}
+use Rattle.state.specs.Slots.{noFile, slotAt, held}
+use Rattle.state.specs.Blocks.{room}
+use Rattle.state.specs.Sound.{Sized, Sound}
+use Rattle.room.specs.declared.Found.the-variants.{At}
 use Rattle.room.specs.Find.{freeFrom, freeSlot, fileFrom, fileOf}
-use Rattle.room.proofs.Found as found
+use Rattle.room.specs.Move.{letGo}
+use Rattle.room.proofs.Find.{free-at}
 use Rattle.judge.specs.Contract.{Whole}
-use Rattle.judge.proofs.Parts.{whole-checked}
+use Rattle.judge.proofs.Parts.{whole-checked, begun-right}
+use Rattle.judge.proofs.Keeps.{Going, file-going}
+use Rattle.judge.proofs.Rulings.{Placed}
 
-pub begun-wrong : (b : Begun) → tagOf begun.the-type b ≡ 0 → b ≡ Wrong
-begun-wrong Wrong e = refl
-begun-wrong (Right t) e = absurd (omega arith)
+-- a file that was placed: its slot is free, and there is room
+pub record Fresh (s : Station) (k : ℕ) (t : Transport) : Type 0 where
+  pub low : k < 32
+  pub free : held (slotAt s k) ≡ false
+  pub some : 1 ≤ need (t .bits)
+  pub fits : need (t .bits) ≤ room s
 
-pub found-nothing : (f : Found) → tagOf found.the-type f ≡ 1 → f ≡ Nothing
-found-nothing (At k) e = absurd (omega arith)
-found-nothing Nothing e = refl
-
-pub free-found : (s : Station) {f : Found} → f ≡ freeFrom 0 (s .slots) → freeSlot s ≡ f
+free-found : (s : Station) {k : ℕ} → freeFrom 0 (s .slots) ≡ At k → freeSlot s ≡ At k
 unfolding freeSlot
-free-found s e = sym e
+free-found s e = e
 
-pub file-found : (s : Station) (c : Channel) (a : Application) {f : Found} → f ≡ fileFrom 0 c a (s .slots) → fileOf s c a ≡ f
+pub placed-fresh : (s : Station) → Sized s → (flags : ℕ) (d : List ℕ) {k : ℕ} {t : Transport} → Placed (s .blocks) (s .slots) (begunOf flags d) k t
+    → Fresh s k t
+placed-fresh s z flags d {k} p =
+    let slot = free-at s k (free-found s (p .free)) in
+    record { low = omega (arith, slot .low, z .slots); free = slot .free; some = begun-right flags d (p .right) .some; fits = p .fits }
+
+-- the incomplete file of a pair
+file-found : (s : Station) (c : Channel) (a : Application) {k : ℕ} → fileFrom 0 c a (s .slots) ≡ At k → fileOf s c a ≡ At k
 unfolding fileOf
-file-found s c a e = sym e
+file-found s c a e = e
 
--- the test of the flags
-module _ (flags : ℕ) {b : Bool} (e : b ≡ (eqb flags 1 || eqb flags 3)) where
-  pub told-starting : b ≡ true → (flags ≡ 1) ⊎ (flags ≡ 3)
-  told-starting f = told-true (decides-or (decides-eqb flags 1) (decides-eqb flags 3)) (sym e ∙ f)
+pub found-going : (s : Station) → Sized s → Sound s → (c : Channel) (a : Application) {k : ℕ} → fileFrom 0 c a (s .slots) ≡ At k → Going s c a k
+found-going s z S c a e = file-going z S c a (file-found s c a e)
 
-  pub told-later : b ≡ false → (flags ≡ 1) ⊎ (flags ≡ 3) → ⊥
-  told-later f = told-false (decides-or (decides-eqb flags 1) (decides-eqb flags 3)) (sym e ∙ f)
+-- the slots once it is let go
+pub left-slots : (s : Station) {t : Station} (k : ℕ) → t ≡ letGo s k → t .slots ≡ set (s .slots) k noFile
+unfolding letGo
+left-slots s k e = ap (λ (u : Station). u .slots) e
 
 -- the header of a whole packet
 module _ {p : List ℕ} {h : Packet} (w : Whole p) (read : h ≡ packetOf p) where

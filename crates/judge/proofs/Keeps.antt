@@ -195,7 +195,7 @@ module _ {s : Station} (z : Sized s) (S : Sound s) where
                 accepted = right .some;
                 watched = (w .place, w .low, w .here);
                 application = l;
-                length = right .good;
+                bits = right .good;
                 count = count;
               };
           fits = fits;

@@ -8,5 +8,6 @@ pub mod Most
 pub mod Steps
 pub mod Exact
 pub mod Writing
+pub mod Rulings
 pub mod Finding
 pub mod Telling

@@ -27,7 +27,7 @@ use Rattle.room.specs.Find.{freeSlot}
 use Rattle.room.specs.Move.{opened}
 use Rattle.room.proofs.Find.{free-at, file-at}
 use Rattle.room.proofs.Keeps.{Refiled, opened-refiles, letGo-refiles, next-refiles}
-use Rattle.judge.specs.Event.{Event, at}
+use Rattle.events.specs.Event.{Event, at}
 use Rattle.judge.specs.Judge.{Judged, dataOf, firstSlot, nextSlot, judged}
 use Rattle.judge.specs.Contract.{Whole}
 use Rattle.judge.proofs.Parts.{whole-smallest, whole-checked, data-length, begun-right, goes-following, Begins, Judges, judges-as}

@@ -35,18 +35,14 @@ use Rattle.room.specs.declared.Found.{Found}
 use Rattle.room.specs.declared.Found.the-variants.{At, Nothing}
 use Rattle.room.specs.Find.{freeSlot, fileOf}
 use Rattle.room.specs.Move.{withFile, opened, letGo}
-use Rattle.judge.specs.Event.{Event, of, at}
-use Rattle.judge.specs.Judge.{Judged, gives, after, dataOf, checkOf, written, firstSlot, nextSlot, opens, placed, begins, starts, goesOn, continues, filed, judgedAs, judged}
+use Rattle.events.specs.Event.{Event, of, at}
+use Rattle.judge.specs.Judge.{Judged, gives, after, dataOf, checkOf, isIntact, written, firstSlot, nextSlot, nextKind, opens, placed, begins, starts, goesOn, continues, filed, judgedAs, judged}
 use Rattle.judge.specs.Packets.{Undamaged, Starting, Following}
 use Rattle.judge.specs.Contract.{Whole}
 
 -- "event 10, and for a whole file event 12 after it"
 abbrev pub openEvents : Packet → ℕ → List Event
 openEvents h k = at 10 (h .application .0) k ∷ (if eqb (h .flags) 3 then at 12 (h .application .0) k ∷ [] else [])
-
--- "event 11, or 12 for the last"
-abbrev pub nextKind : Packet → ℕ
-nextKind h = if eqb (h .flags) 2 then 12 else 11
 
 -- a file that begins
 module _ (c : Channel) (s : Station) (store : List ℕ) (h : Packet) (d : List ℕ) where
@@ -142,15 +138,15 @@ module _ (c : Channel) (s : Station) (store p : List ℕ) {h : Packet} (read : h
   judged-other l m = rw (← read, lt-leb (h .application .0) 2015 l, le-leb (h .application .0) 2046 m)
 
   module _ (file : h .application .0 ≤ 2015) where
-    judged-by : {b : Bool} → eqb (crcOf (dataOf p)) (checkOf p) ≡ b
+    judged-by : {b : Bool} → isIntact p ≡ b
         → judged c s store p ≡ (if b then filed c s store h (dataOf p) else gives s store (of 4 (h .application .0) ∷ []))
     unfolding judged judgedAs
     judged-by e = rw (← read, le-leb (h .application .0) 2015 file, e)
 
-    pub judged-damaged : eqb (crcOf (dataOf p)) (checkOf p) ≡ false → judged c s store p ≡ gives s store (of 4 (h .application .0) ∷ [])
+    pub judged-damaged : isIntact p ≡ false → judged c s store p ≡ gives s store (of 4 (h .application .0) ∷ [])
     judged-damaged e = judged-by e
 
-    module _ (intact : eqb (crcOf (dataOf p)) (checkOf p) ≡ true) where
+    module _ (intact : isIntact p ≡ true) where
       pub judged-starts : Starting h → judged c s store p ≡ starts c s store h (dataOf p) (fileOf s c (h .application))
       judged-starts e = judged-by intact ∙ filed-starts c s store h (dataOf p) e
 
@@ -173,7 +169,7 @@ pub data Judges (c : Channel) (s : Station) (store p : List ℕ) : Judged → Ty
   fill : 2046 < packetOf p .application .0 → Judges c s store p (gives s store [])
   other : 2015 < packetOf p .application .0 → packetOf p .application .0 ≤ 2046
       → Judges c s store p (gives s store (of 13 (packetOf p .application .0) ∷ []))
-  damaged : packetOf p .application .0 ≤ 2015 → eqb (crcOf (dataOf p)) (checkOf p) ≡ false
+  damaged : packetOf p .application .0 ≤ 2015 → isIntact p ≡ false
       → Judges c s store p (gives s store (of 4 (packetOf p .application .0) ∷ []))
   begins-new : Undamaged p → Starting (packetOf p) → fileOf s c (packetOf p .application) ≡ Nothing
       → {j : Judged} → Begins c s store (packetOf p) (dataOf p) j → Judges c s store p j
@@ -221,7 +217,7 @@ starting h =
     ]
 
 pub judges-as : (c : Channel) (s : Station) (store p : List ℕ) → Judges c s store p (judged c s store p)
-judges-as c s store p = by (leb a 2015) (leb a 2046) (eqb (crcOf (dataOf p)) (checkOf p)) refl refl refl
+judges-as c s store p = by (leb a 2015) (leb a 2046) (isIntact p) refl refl refl
   where
     h : Packet
     h = packetOf p
@@ -256,7 +252,7 @@ judges-as c s store p = by (leb a 2015) (leb a 2046) (eqb (crcOf (dataOf p)) (ch
           | no e ↦ later-with u e (fileOf s c (h .application)) refl
         ]
 
-    by : (file reserved right : Bool) → leb a 2015 ≡ file → leb a 2046 ≡ reserved → eqb (crcOf (dataOf p)) (checkOf p) ≡ right
+    by : (file reserved right : Bool) → leb a 2015 ≡ file → leb a 2046 ≡ reserved → isIntact p ≡ right
         → Judges c s store p (judged c s store p)
     by true reserved true l m e = filed-as (record { file = leb-true a 2015 l; intact = e })
     by true reserved false l m e =
@@ -295,6 +291,9 @@ pub data-cut : (p : List ℕ) → part 6 (length p - 2 - 6) p ≡ dataOf p
 data-cut p =
     let k : length p - 2 - 6 ≡ length p - 8 = omega arith in
     rw k
+
+pub intact-cut : (p : List ℕ) {x y : ℕ} → x ≡ crcOf (part 6 (length p - 2 - 6) p) → y ≡ checkOf p → eqb x y ≡ isIntact p
+intact-cut p e f = rw (e, f, data-cut)
 
 -- "First: 8,190 octets and N at least 2. Whole: 10 + L/8 octets and N = 1."
 pub record RightStart (flags : ℕ) (d : List ℕ) (t : Transport) : Type 0 where

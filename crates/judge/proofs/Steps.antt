@@ -34,10 +34,10 @@ use Rattle.room.specs.Move.{withFile, opened, letGo}
 use Rattle.room.specs.File.{blockOctets}
 use Rattle.room.proofs.Find.{free-at}
 use Rattle.room.proofs.Keeps.{refiled-slot, refiled-slots, refiled-sized, opened-refiles, opened-blocks, opened-count, letGo-refiles, letGo-blocks, letGo-sound, next-refiles}
-use Rattle.judge.specs.Event.{Event, at}
-use Rattle.judge.specs.Judge.{Judged, gives, after, dataOf, written, firstSlot, nextSlot, goesOn, judged}
+use Rattle.events.specs.Event.{Event, at}
+use Rattle.judge.specs.Judge.{Judged, gives, after, dataOf, written, firstSlot, nextSlot, goesOn, judged, nextKind}
 use Rattle.judge.specs.Packets.{Undamaged, Starting}
-use Rattle.judge.proofs.Parts.{openEvents, nextKind, Begins, Judges, judges-as, begun-right, goes-following}
+use Rattle.judge.proofs.Parts.{openEvents, Begins, Judges, judges-as, begun-right, goes-following}
 use Rattle.judge.proofs.Parts.Begins.{wrong-shape, no-slot, no-room, opens-at}
 use Rattle.judge.proofs.Parts.Judges.{fill, other, damaged, begins-new, begins-over, stray, goes-on, breaks-off}
 use Rattle.judge.proofs.Keeps.{stays-refiled, file-going}

@@ -9,9 +9,9 @@ use lib.ListN.{length, getD, take, length-take}
 use Rattle.state.specs.declared.Slot.{Slot}
 use Rattle.state.specs.declared.Station.{Station}
 use Rattle.state.specs.Slots.{slotAt, held, needOf}
-use Rattle.state.specs.Blocks.{numbersOf, blocksOf, room}
+use Rattle.state.specs.Blocks.{numbersOf, table, blocksOf, room}
 use Rattle.state.specs.Sound.{Sized, Sound}
-use Rattle.state.proofs.Blocks.{entry-low}
+use Rattle.state.proofs.Blocks.{entry-low, numbers-few}
 use Rattle.room.specs.Move.{opened}
 use Rattle.room.proofs.Keeps.{opened-refiles, opened-count}
 use Rattle.judge.proofs.Keeps.{Stays, stays-refiled}
@@ -24,13 +24,14 @@ module _ (owner : List ℕ) (n k place : ℕ) {b : ℕ} (found : b ≡ getD (num
   pub block-low : place < length (numbersOf (suc k) 0 (take n owner)) → b < n
   block-low low = omega (arith, block-is, entry-low (suc k) (take n owner) place low, length-take n owner)
 
+-- a slot has no more blocks than the table
+pub blocks-few : (s : Station) (k : ℕ) → length (s .owner) ≡ 4096 → length (blocksOf s k) ≤ 4096
+blocks-few s k l = omega (arith, numbers-few (suc k) 0 (table s), length-take (s .blocks) (s .owner))
+
 -- a file just opened: the store is the same, and there is a first block
 module _ {s t : Station} (k : ℕ) (x : Slot) (z : Sized s) (S : Sound s) (e : t ≡ opened s k x) where
   stays : Stays s t
   stays = rw e (stays-refiled (opened-refiles s k x))
-
-  pub opened-store : t .blocks ≡ s .blocks
-  opened-store = stays .blocks
 
   pub opened-owners : t .blocks ≤ length (t .owner)
   opened-owners = omega (arith, stays .blocks, stays .owners, z .owner, S .setUp .least)

@@ -10,13 +10,13 @@ use Rattle.packet.specs.Header.{packetOf, lookOf, sizeOf}
 use Rattle.state.specs.declared.Station.{Station}
 use Rattle.state.specs.Slots.{named}
 use Rattle.state.specs.Sound.{Sound}
-use Rattle.judge.specs.declared.Told.{Told}
-use Rattle.judge.specs.Event.{flat}
+use Rattle.events.specs.Event.{flat}
 use Rattle.judge.specs.Judge.{Judged}
 
 -- a sound state, its store, and a list with room for m more events after the n that it has
 pub record Ready (s : Station) (store list : List ℕ) (n m : ℕ) : Type 0 where
   pub sound : Sound s
+  pub owners : length (s .owner) ≡ 4096
   pub blocks : length store ≡ 8190 * s .blocks
   pub enough : 3 * (n + m) ≤ length list
 
@@ -31,9 +31,9 @@ pub record Whole (p : List ℕ) : Type 0 where
   pub good : lookOf p ≡ Good (packetOf p)
   pub all : length p ≡ sizeOf (packetOf p)
 
--- what came out is what was to come of it: the state, the number of events, the store, and the events behind the n that the list had
-pub record Tells (j : Judged) (n : ℕ) (list₀ : List ℕ) (r : Told) (store list : List ℕ) : Type 0 where
-  pub station : r .station ≡ j .station
-  pub events : r .events ≡ n + length (j .events)
+-- what came out is what was to come of it: the state t, the number m of events, the store, and the events behind the n that the list had
+pub record Tells (j : Judged) (n : ℕ) (list₀ : List ℕ) (t : Station) (m : ℕ) (store list : List ℕ) : Type 0 where
+  pub station : t ≡ j .station
+  pub events : m ≡ n + length (j .events)
   pub wrote : store ≡ j .store
   pub listed : list ≡ put list₀ (3 * n) (flat (j .events))

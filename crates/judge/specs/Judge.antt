@@ -27,7 +27,7 @@ use Rattle.room.specs.declared.Found.{Found}
 use Rattle.room.specs.declared.Found.the-variants.{At, Nothing}
 use Rattle.room.specs.Find.{freeSlot, fileOf}
 use Rattle.room.specs.Move.{withFile, opened, letGo}
-use Rattle.judge.specs.Event.{Event, of, at}
+use Rattle.events.specs.Event.{Event, of, at}
 
 -- what comes of it: the state, the store's octets, and the events
 pub record Judged : Type 0 where
@@ -44,6 +44,10 @@ dataOf p = part 6 (length p - 8) p
 
 abbrev pub checkOf : List ℕ → ℕ
 checkOf p = numberAt p (length p - 2) 2
+
+-- whether it is so
+abbrev pub isIntact : List ℕ → Bool
+isIntact p = eqb (crcOf (dataOf p)) (checkOf p)
 
 -- "A packet's data is written from its block's start and the rest of the block stays": the block at place i of slot k
 unfoldable pub written : Station → ℕ → ℕ → List ℕ → List ℕ → List ℕ
@@ -88,6 +92,10 @@ starts c s store h d (At k) = after (at 6 (h .application .0) k ∷ []) (begins 
 unfoldable pub goesOn : Slot → Packet → List ℕ → Bool
 goesOn x h d = fits (h .flags) (length d) (x .bits) (x .accepted) (x .count) (h .count)
 
+-- "event 11, or 12 for the last"
+abbrev pub nextKind : Packet → ℕ
+nextKind h = if eqb (h .flags) 2 then 12 else 11
+
 -- "If so it is written into its block, event 11, or 12 for the last. If not, event 6."
 unfoldable pub continues : Station → List ℕ → Packet → List ℕ → Found → Judged
 continues s store h d Nothing = gives s store (of 5 (h .application .0) ∷ [])
@@ -95,7 +103,7 @@ continues s store h d (At k) =
     let x : Slot = slotAt s k in
     let a : ℕ = h .application .0 in
     if goesOn x h d
-    then gives (withFile s (s .owner) k (nextSlot x h)) (written s k (x .accepted) d store) (at (if eqb (h .flags) 2 then 12 else 11) a k ∷ [])
+    then gives (withFile s (s .owner) k (nextSlot x h)) (written s k (x .accepted) d store) (at (nextKind h) a k ∷ [])
     else gives (letGo s k) store (at 6 a k ∷ [])
 
 -- "Flags 1 (first) or 3 (whole)"
@@ -114,7 +122,7 @@ unfoldable pub judgedAs : Kind → Channel → Station → List ℕ → Packet �
 judgedAs Fill c s store h p = gives s store []
 judgedAs Other c s store h p = gives s store (of 13 (h .application .0) ∷ [])
 judgedAs File c s store h p =
-    if eqb (crcOf (dataOf p)) (checkOf p) then filed c s store h (dataOf p) else gives s store (of 4 (h .application .0) ∷ [])
+    if isIntact p then filed c s store h (dataOf p) else gives s store (of 4 (h .application .0) ∷ [])
 
 -- a whole packet of channel c
 unfoldable pub judged : Channel → Station → List ℕ → List ℕ → Judged

@@ -4,9 +4,7 @@ use mathlib.Core.Bool.{true}
 use mathlib.Core.Logic.{_⊎_}
 use mathlib.Core.List.{List}
 use Prim.Native.Nat.{ℕ, _+_, _≤_}
-use lib.Dec.{eqb}
 use lib.ListN.{length}
-use Rattle.crc.specs.Crc.{crcOf}
 use Rattle.packet.specs.declared.Packet.{Packet}
 use Rattle.packet.specs.Kinds.{nextCount}
 use Rattle.packet.specs.Header.{packetOf}
@@ -16,12 +14,12 @@ use Rattle.transport.specs.Length.{rest}
 use Rattle.transport.specs.Shape.{begunOf}
 use Rattle.state.specs.declared.Slot.{Slot}
 use Rattle.state.specs.Slots.{needOf}
-use Rattle.judge.specs.Judge.{dataOf, checkOf}
+use Rattle.judge.specs.Judge.{dataOf, isIntact}
 
 -- a packet of a file, and "the last two octets are the CRC of the data before them"
 pub record Undamaged (p : List ℕ) : Type 0 where
   pub file : packetOf p .application .0 ≤ 2015
-  pub intact : eqb (crcOf (dataOf p)) (checkOf p) ≡ true
+  pub intact : isIntact p ≡ true
 
 -- "Flags 1 (first) or 3 (whole)"
 abbrev pub Starting : Packet → Type 0

@@ -1,14 +1,14 @@
 -- The searches: which slot is free, which file is of a pair, the sum of the needs, the block at a place; and the loops for them. Assumes nothing.
 use mathlib.Core.Path.{_≡_, refl, sym, ap, subst, _∙_}
-use mathlib.Core.Bool.{Bool, true, false, not, _&&_, and-false, true≢false}
+use mathlib.Core.Bool.{Bool, true, false, not, _&&_, true≢false}
 use mathlib.Core.List.{List, [], _∷_}
-use Prim.Native.Nat.{ℕ, suc, _+_, _-_, _*_, _^_, _≤_, _<_}
+use Prim.Native.Nat.{ℕ, zero, suc, _+_, _-_, _*_, _^_, _≤_, _<_}
 use native.Mathlib.Nat.{sub-zero, zero-add, add-zero, le-refl}
 use native.Mathlib.Numerals.{add-one}
 use native.Mathlib.Omega.{arith}
 use borrow.Author.Tests.{eqb-true, eq-eqb, not-true, not-false}
 use lib.Dec.{eqb}
-use lib.ListN.{length, getD, take, drop, drop-of-length-le}
+use lib.ListN.{length, getD, set, take, drop, drop-of-length-le}
 use lib.Seq.{drop-cons}
 use Rattle.octets.specs.Choice.{if_then_else_}
 use Rattle.octets.proofs.Below.{below-none, below-cons}
@@ -16,7 +16,6 @@ use Rattle.octets.proofs.Lists.{if-true, if-false, if-cases}
 use Rattle.octets.proofs.Tests.{and-left, and-right, and-both}
 use Rattle.frame.specs.declared.Channel.{Channel}
 use Rattle.packet.specs.declared.Application.{Application}
-use Rattle.transport.specs.Length.{need, transportSize, octetsOfBits}
 use Rattle.state.specs.declared.Slot.{Slot}
 use Rattle.state.specs.declared.Station.{Station}
 use Rattle.state.specs.Slots.{noFile, slotAt, held, needOf, incomplete, ofPair}
@@ -58,17 +57,17 @@ pub record First (f : Slot → Bool) (xs : List Slot) (k : ℕ) : Type 0 where
   pub here : f (getD xs k noFile) ≡ true
   pub before : (j : ℕ) → j < k → f (getD xs j noFile) ≡ false
 
-abbrev pub Tells : (Slot → Bool) → ℕ → List Slot → Found → Type 0
-Tells f i xs (At k) = (i ≤ k) × First f xs (k - i)
-Tells f i xs Nothing = (j : ℕ) → j < length xs → f (getD xs j noFile) ≡ false
+abbrev pub FindTells : (Slot → Bool) → ℕ → List Slot → Found → Type 0
+FindTells f i xs (At k) = (i ≤ k) × First f xs (k - i)
+FindTells f i xs Nothing = (j : ℕ) → j < length xs → f (getD xs j noFile) ≡ false
 
 module _ (f : Slot → Bool) where
-  tells-here : (i : ℕ) (x : Slot) (xs : List Slot) → f x ≡ true → Tells f i (x ∷ xs) (At i)
+  tells-here : (i : ℕ) (x : Slot) (xs : List Slot) → f x ≡ true → FindTells f i (x ∷ xs) (At i)
   tells-here i x xs e =
       let z : i - i ≡ 0 = omega arith in
       (le-refl i, rw z (record { low = omega arith; here = e; before = below-none (λ (j : ℕ). f (getD (x ∷ xs) j noFile) ≡ false) }))
 
-  tells-later : (i : ℕ) (x : Slot) (xs : List Slot) (r : Found) → f x ≡ false → Tells f (suc i) xs r → Tells f i (x ∷ xs) r
+  tells-later : (i : ℕ) (x : Slot) (xs : List Slot) (r : Found) → f x ≡ false → FindTells f (suc i) xs r → FindTells f i (x ∷ xs) r
   tells-later i x xs (At k) e (h, t) =
       let z : k - i ≡ suc (k - suc i) = omega arith in
       let later : First f (x ∷ xs) (suc (k - suc i)) =
@@ -80,17 +79,17 @@ module _ (f : Slot → Bool) where
       (omega arith, rw z later)
   tells-later i x xs Nothing e t = below-cons (λ (j : ℕ). f (getD (x ∷ xs) j noFile) ≡ false) e t
 
-  tells : (i : ℕ) (xs : List Slot) → Tells f i xs (firstFrom f i xs)
+  tells : (i : ℕ) (xs : List Slot) → FindTells f i xs (firstFrom f i xs)
   unfolding firstFrom
   tells i [] = below-none (λ (j : ℕ). f noFile ≡ false)
   tells i (x ∷ xs) =
-      if-cases (Tells f i (x ∷ xs)) (f x) (λ e. tells-here i x xs e) (λ e. tells-later i x xs (firstFrom f (suc i) xs) e (tells (suc i) xs))
+      if-cases (FindTells f i (x ∷ xs)) (f x) (λ e. tells-here i x xs e) (λ e. tells-later i x xs (firstFrom f (suc i) xs) e (tells (suc i) xs))
 
   first-at : (xs : List Slot) (k : ℕ) → firstFrom f 0 xs ≡ At k → First f xs k
-  first-at xs k e = subst (First f xs) (sub-zero k) (subst (Tells f 0 xs) e (tells 0 xs) .1)
+  first-at xs k e = subst (First f xs) (sub-zero k) (subst (FindTells f 0 xs) e (tells 0 xs) .1)
 
   first-nothing : (xs : List Slot) → firstFrom f 0 xs ≡ Nothing → (j : ℕ) → j < length xs → f (getD xs j noFile) ≡ false
-  first-nothing xs e = subst (Tells f 0 xs) e (tells 0 xs)
+  first-nothing xs e = subst (FindTells f 0 xs) e (tells 0 xs)
 
 -- "the lowest free slot"
 pub record FreeAt (s : Station) (k : ℕ) : Type 0 where
@@ -155,6 +154,17 @@ module _ (s : Station) (c : Channel) (a : Application) where
           let l = z .slots in
           absurd (file-nowhere e k (omega arith) i p)
 
+-- a slot that a search finds is one of them
+pub file-low : (c : Channel) (a : Application) (xs : List Slot) {k : ℕ} → fileFrom 0 c a xs ≡ At k → k < length xs
+file-low c a xs {k} e = first-at (sought c a) xs k (sym (file-first c a 0 xs) ∙ e) .low
+
+-- a slot that becomes free needs nothing
+pub needs-lower : (xs : List Slot) (k : ℕ) → needs (set xs k noFile) ≤ needs xs
+unfolding needs held
+needs-lower [] k = omega arith
+needs-lower (x ∷ xs) zero = omega arith
+needs-lower (x ∷ xs) (suc k) = omega (arith, needs-lower xs k)
+
 -- the loop of a search: slot k is next, and what is left to search gives the answer
 pub record Seeking (answer : Found) (f : Slot → Bool) (xs : List Slot) (k : ℕ) : Type 0 where
   pub within : k ≤ 32
@@ -188,19 +198,7 @@ module _ {answer : Found} {f : Slot → Bool} {xs : List Slot} {k : ℕ} (m : Se
       let past : length xs ≤ k = omega arith in
       sym (m .gives ∙ rw (drop-of-length-le xs past))
 
--- the tests of the second search, which go one by one
-module _ (c : Channel) (a : Application) (x : Slot) where
-  pub other-pair : ofPair c a x ≡ false → sought c a x ≡ false
-  other-pair e = rw e
-
-  pub not-incomplete : incomplete x ≡ false → sought c a x ≡ false
-  not-incomplete e = rw e (and-false (ofPair c a x))
-
--- the loop that sums the needs. A need is below 2^49, since a length is below 2^64
-pub need-small : (L : ℕ) → L < 2 ^ 64 → need L < 2 ^ 49
-unfolding need transportSize octetsOfBits
-need-small L h = omega arith
-
+-- the loop that sums the needs, each below 2^49 as a length is below 2^64
 pub record Summing (xs : List Slot) (sum k : ℕ) : Type 0 where
   pub within : k ≤ 32
   pub long : length xs ≡ 32

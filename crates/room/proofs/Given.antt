@@ -34,7 +34,7 @@ use Rattle.state.specs.declared.Slot.{Slot}
 use Rattle.state.specs.declared.Station.{Station}
 use Rattle.state.specs.Slots.{noFile, needOf}
 use Rattle.state.specs.Blocks.{numbersOf, table, freeBlocks}
-use Rattle.state.proofs.Blocks.{numbers-in, numbers-out, entry-low, numbers-few}
+use Rattle.state.proofs.Blocks.{numbers-in, numbers-out, entry-low}
 use Rattle.room.specs.Move.{given, withFile, opened, letGo}
 
 -- what the table holds after blocks went to o
@@ -57,13 +57,6 @@ unfolding given
 given-in o [] t r h k = absurd (not-suc-le-zero h)
 given-in o (b ∷ bs) t zero h k = given-stays o bs (set t b o) b (getD-set-same t b o 0 k)
 given-in o (b ∷ bs) t (suc r) h k = given-in o bs (set t b o) r (le-of-suc-le-suc h) (lt-length-set t b o k)
-
-pub given-out : (o : ℕ) (bs t : List ℕ) (b : ℕ) → Below (λ (r : ℕ). getD bs r 0 ≡ b → ⊥) (length bs) → getD (given o bs t) b 0 ≡ getD t b 0
-unfolding given
-given-out o [] t b f = refl
-given-out o (c ∷ bs) t b f =
-    given-out o bs (set t c o) b (below-tail (λ (r : ℕ). getD (c ∷ bs) r 0 ≡ b → ⊥) f)
-    ∙ getD-set-other t c b o 0 (λ e. f 0 (omega arith) (sym e))
 
 -- each of a list of blocks is below n
 abbrev pub AllBelow : ℕ → List ℕ → Type 0
@@ -227,9 +220,6 @@ abbrev pub ahead : ℕ → ℕ → ℕ → List ℕ → List ℕ
 ahead o b n t = numbersOf o b (part b (n - b) t)
 
 module _ (o n : ℕ) (t : List ℕ) where
-  pub ahead-first : ahead o 0 n t ≡ numbersOf o 0 (take n t)
-  ahead-first = rw sub-zero
-
   pub ahead-none : (b : ℕ) → n ≤ b → ahead o b n t ≡ []
   unfolding numbersOf
   ahead-none b h =
@@ -284,10 +274,40 @@ module _ {n from to count : ℕ} {before after : List ℕ} {still b : ℕ} (m : 
   unfolding given
   moving-all h = sym (m .gives ∙ rw (ahead-none from n after b h, take-nil))
 
--- all blocks of an owner are no more than the table has
-pub numbers-all : (o n : ℕ) (t : List ℕ) → take n (numbersOf o 0 (take n t)) ≡ numbersOf o 0 (take n t)
-numbers-all o n t =
-    take-all n (numbersOf o 0 (take n t)) (omega (arith, numbers-few o 0 (take n t), length-take n t))
+-- the loop that frees all blocks of an owner: block b is next, and what is left to do gives what was wanted
+pub record Freeing (n from : ℕ) (before after : List ℕ) (b : ℕ) : Type 0 where
+  pub within : b ≤ n
+  pub fits : n ≤ length after
+  pub gives : given 0 (numbersOf from 0 (take n before)) before ≡ given 0 (ahead from b n after) after
+
+pub freeing-first : (n from : ℕ) (before : List ℕ) (size : ℕ) → length before ≡ size → n ≤ size → Freeing n from before before 0
+freeing-first n from before size l h = record { within = omega arith; fits = omega arith; gives = rw sub-zero }
+
+module _ {n from : ℕ} {before after : List ℕ} {b : ℕ} (m : Freeing n from before after b) where
+  module _ (low : b < n) where
+    freeing-here : getD after b 0 ≡ from → Freeing n from before (set after b 0) (b + 1)
+    unfolding given
+    freeing-here e =
+        record {
+          within = omega arith;
+          fits = rw length-set (m .fits);
+          gives = m .gives ∙ rw (ahead-here from n after b low (m .fits) e, drop-set-lt (b + 1) after b 0 (omega arith));
+        }
+
+    freeing-past : (getD after b 0 ≡ from → ⊥) → Freeing n from before (set after b (getD after b 0)) (b + 1)
+    freeing-past f =
+        rw set-getD
+        (record { within = omega arith; fits = m .fits; gives = m .gives ∙ rw (ahead-past from n after b low (m .fits) f) })
+
+    pub freeing-on : {o : ℕ} → o ≡ (if eqb (getD after b 0) from then 0 else getD after b 0) → Freeing n from before (set after b o) (b + 1)
+    freeing-on e =
+        rw e
+        (if-cases (λ (o : ℕ). Freeing n from before (set after b o) (b + 1)) (eqb (getD after b 0) from)
+        (λ q. freeing-here (eqb-true (getD after b 0) from q)) (λ q. freeing-past (eqb-false (getD after b 0) from q)))
+
+  pub freeing-all : n ≤ b → after ≡ given 0 (numbersOf from 0 (take n before)) before
+  unfolding given
+  freeing-all h = sym (m .gives ∙ rw (ahead-none from n after b h))
 
 -- what the two functions that move blocks leave
 module _ (s : Station) (k : ℕ) (x : Slot) {owner : List ℕ} where
@@ -295,6 +315,6 @@ module _ (s : Station) (k : ℕ) (x : Slot) {owner : List ℕ} where
   unfolding opened
   is-opened n q e = rw (e, q, add-one)
 
-  pub is-letGo : x ≡ noFile → owner ≡ given 0 (take (s .blocks) (numbersOf (k + 1) 0 (table s))) (s .owner) → withFile s owner k x ≡ letGo s k
+  pub is-letGo : x ≡ noFile → owner ≡ given 0 (numbersOf (k + 1) 0 (table s)) (s .owner) → withFile s owner k x ≡ letGo s k
   unfolding letGo
-  is-letGo q e = rw (e, q, add-one, numbers-all (suc k) (s .blocks) (s .owner))
+  is-letGo q e = rw (e, q, add-one)

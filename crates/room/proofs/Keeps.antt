@@ -46,7 +46,7 @@ pub record Fit (s : Station) (x : Slot) : Type 0 where
   pub accepted : x .accepted ≤ needOf x
   pub watched : (i : ℕ) × (i < s .channels) × (getD (named s) i 0 ≡ x .channel .0)
   pub application : x .application .0 ≤ 2015
-  pub length : goodLength (x .bits) ≡ true
+  pub bits : goodLength (x .bits) ≡ true
   pub count : x .count .0 < 16384
 
 pub accepted-held : (x : Slot) → 1 ≤ x .accepted → held x ≡ true
@@ -87,7 +87,7 @@ module _ {s t : Station} {k : ℕ} {x : Slot} (r : Refiled s k x t) where
         accepted = f .accepted;
         watched = f .watched;
         application = f .application;
-        length = f .length;
+        bits = f .bits;
         count = f .count;
       })
 
@@ -116,7 +116,7 @@ module _ {s : Station} {x : Slot} {n : ℕ} where
 module _ {s : Station} (k : ℕ) where
   proper-held : Proper s (slotAt s k) (length (blocksOf s k)) → held (slotAt s k) ≡ true → HeldSlot s k
   proper-held (file f p) e =
-      record { accepted = f .accepted; watched = f .watched; application = f .application; length = f .length; count = f .count; places = p }
+      record { accepted = f .accepted; watched = f .watched; application = f .application; bits = f .bits; count = f .count; places = p }
   proper-held (none q p) e = absurd (true≢false (sym e ∙ none-free (slotAt s k) q))
 
   pub held-fit : Sound s → k < 32 → held (slotAt s k) ≡ true → Fit s (slotAt s k)
@@ -127,7 +127,7 @@ module _ {s : Station} (k : ℕ) where
         accepted = f .accepted;
         watched = f .watched;
         application = f .application;
-        length = f .length;
+        bits = f .bits;
         count = f .count;
       }
 
@@ -355,7 +355,7 @@ module _ {s : Station} (z : Sized s) (h : Sound s) {k : ℕ} {x : Slot} (n : Nex
         accepted = n .accepted;
         watched = rw (n .channel) (f .watched);
         application = rw (n .application) (f .application);
-        length = rw (n .bits) (f .length);
+        bits = rw (n .bits) (f .bits);
         count = n .count;
       }
 

@@ -4,7 +4,7 @@ use Prim.Native.Nat.{ℕ, suc}
 use lib.ListN.{set, take}
 use Rattle.state.specs.declared.Slot.{Slot}
 use Rattle.state.specs.declared.Station.{Station}
-use Rattle.state.specs.Slots.{noFile, needOf}
+use Rattle.state.specs.Slots.{noFile, needOf, headOf, stationOf}
 use Rattle.state.specs.Blocks.{freeBlocks, blocksOf}
 
 -- the owners after the blocks of a list went to o
@@ -14,16 +14,7 @@ given o (b ∷ bs) owner = given o bs (set owner b o)
 
 -- the station with other owners and another file in slot k
 abbrev pub withFile : Station → List ℕ → ℕ → Slot → Station
-withFile s owner k x =
-    record {
-      spacecraft = s .spacecraft;
-      channels = s .channels;
-      watched = s .watched;
-      desks = s .desks;
-      blocks = s .blocks;
-      owner = owner;
-      slots = set (s .slots) k x;
-    }
+withFile s owner k x = stationOf (headOf s) owner (set (s .slots) k x)
 
 -- a file opened in slot k: "the N lowest free blocks, in rising order"
 unfoldable pub opened : Station → ℕ → Slot → Station

@@ -4,13 +4,17 @@
 // other file's places (proofs/Keeps.antt).
 use frame::Channel;
 use packet::Application;
+use state::Head;
 use state::Slot;
 use state::Station;
 use transport::Transport;
 ghost use mathlib.Core.Path.{_≡_};
-ghost use Prim.Native.Nat.{min, _+_, _*_, _≤_, _<_};
+ghost use Prim.Native.Nat.{_+_, _*_, _≤_, _<_};
 ghost use lib.ListN.{length, getD, take};
+ghost use lib.Dec.{eqb};
+ghost use Rattle.octets.specs.Choice.{if_then_else_};
 ghost use Rattle.octets.specs.Number.{part};
+ghost use Rattle.state.specs.Slots.{stationOf};
 ghost use Rattle.state.specs.Blocks.{numbersOf, needs as needsOf};
 ghost use Rattle.room.specs.Find.{freeFrom, fileFrom};
 ghost use Rattle.room.specs.Move.{given, opened, letGo};
@@ -97,29 +101,59 @@ fn move_blocks(
     }
 }
 
-// A file opened in slot k.
-pub fn open_file(s: Station, k: usize, x: Slot) -> Station
-    requires { ⌜ (k < 32) × (s .blocks ≤ 4096) ⌝ }
-    ensures { λ r. ⌜ r ≡ opened s k x ⌝ }
+// An owner after the blocks of one owner became free.
+fn kept(o: u8, from: u8) -> u8
+    ensures { λ r. ⌜ r ≡ (if eqb o from then 0 else o) ⌝ }
 {
-    let mut t = s;
-    let n = t.blocks as usize;
-    move_blocks(&mut t.owner, n, 0, k as u8 + 1, x.need() as usize);
-    t.slots[k] = x;
-    t
+    if o == from { 0 } else { o }
+}
+
+// All blocks of the owner from among the first n become free. Each entry is written, whoever owns it: a loop without a test is quicker.
+fn free_blocks(owner: &mut [u8; Station::MOST_BLOCKS as usize], n: usize, from: u8)
+    requires { ⌜ (n ≤ 4096) × (length (now owner) ≡ 4096) ⌝ }
+    ensures { λ _. ⌜ now (owner .exit) ≡ given 0 (numbersOf from 0 (take n (now (owner .entry)))) (now (owner .entry)) ⌝ }
+{
+    let mut b: usize = 0;
+    while b < n {
+        owner[b] = kept(owner[b], from);
+        b += 1;
+    }
+}
+
+// A file opened in slot k.
+pub fn open_file(
+    head: Head,
+    owner: &mut [u8; Station::MOST_BLOCKS as usize],
+    slots: [Slot; Station::SLOTS],
+    k: usize,
+    x: Slot,
+) -> [Slot; Station::SLOTS]
+    requires { ⌜ (k < 32) × (head .blocks ≤ 4096) × (length (now owner) ≡ 4096) ⌝ }
+    ensures { λ r. ⌜ stationOf head (now (owner .exit)) r ≡ opened (stationOf head (now (owner .entry)) slots) k x ⌝ }
+{
+    let n = head.blocks as usize;
+    move_blocks(owner, n, 0, k as u8 + 1, x.need() as usize);
+    let mut after = slots;
+    after[k] = x;
+    after
 }
 
 // The file of slot k let go.
-pub fn let_go(s: Station, k: usize) -> Station
-    requires { ⌜ (k < 32) × (s .blocks ≤ 4096) ⌝ }
-    ensures { λ r. ⌜ r ≡ letGo s k ⌝ }
+pub fn let_go(
+    head: Head,
+    owner: &mut [u8; Station::MOST_BLOCKS as usize],
+    slots: [Slot; Station::SLOTS],
+    k: usize,
+) -> [Slot; Station::SLOTS]
+    requires { ⌜ (k < 32) × (head .blocks ≤ 4096) × (length (now owner) ≡ 4096) ⌝ }
+    ensures { λ r. ⌜ stationOf head (now (owner .exit)) r ≡ letGo (stationOf head (now (owner .entry)) slots) k ⌝ }
 {
-    let mut t = s;
-    let n = t.blocks as usize;
-    move_blocks(&mut t.owner, n, k as u8 + 1, 0, n);
+    let n = head.blocks as usize;
+    free_blocks(owner, n, k as u8 + 1);
+    let mut after = slots;
     let empty = Slot::none();
-    t.slots[k] = empty;
-    t
+    after[k] = empty;
+    after
 }
 
 // The block at a place of an owner among the first n, or 0 where there is none.
@@ -157,7 +191,7 @@ pub fn copy_out(owner: &[u8], n: usize, o: u8, store: &[u8], from: usize, buffer
     while done < buffer.len() {
         if owner[b] == o {
             if skip < Transport::BLOCK {
-                let size = least(Transport::BLOCK - skip, buffer.len() - done);
+                let size = octets::least(Transport::BLOCK - skip, buffer.len() - done);
                 let at = b * Transport::BLOCK + skip;
                 let end = at + size;
                 octets::copy(&store[at..end], buffer, done);
@@ -172,10 +206,4 @@ pub fn copy_out(owner: &[u8], n: usize, o: u8, store: &[u8], from: usize, buffer
             b += 1;
         }
     }
-}
-
-fn least(a: usize, b: usize) -> usize
-    ensures { λ r. ⌜ r ≡ min a b ⌝ }
-{
-    if a < b { a } else { b }
 }

@@ -1,7 +1,6 @@
 -- `judge::intact` meets its contract: the part that the code cuts out is the data, header not included. Assumes nothing.
-use Prim.Native.Nat.{_-_}
 use borrow.Author.Needs.{needs}
-use Rattle.judge.proofs.Parts.{data-cut}
+use Rattle.judge.proofs.Parts.{intact-cut}
 use Rattle.judge.proofs.intact.Statement.{statement}
 use Rattle.judge.proofs.intact.Tie as tie
 
@@ -24,7 +23,7 @@ u16-at-requires : tie.Need-u16-at-requires
 u16-at-requires c κs = search needs
 
 returns : tie.Need-returns
-returns c = rw (c .before .crc .ensures, c .u16-at .ensures, data-cut)
+returns c = intact-cut (c .before .before .before .before .args .packet .now) (c .before .crc .ensures) (c .u16-at .ensures)
 
 pub intact-spec : {M : Type 1} → statement M
 intact-spec =

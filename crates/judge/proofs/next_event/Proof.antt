@@ -1,5 +1,4 @@
 -- `judge::next_event` meets its contract, by its test. Assumes nothing.
-use Prim.Native.Nat.{_-_}
 use Rattle.octets.proofs.Tests.{tests}
 use Rattle.judge.proofs.next_event.Statement.{statement}
 use Rattle.judge.proofs.next_event.Tie as tie

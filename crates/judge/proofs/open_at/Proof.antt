@@ -1,35 +1,35 @@
 -- `judge::open_at` meets its contract: a file just opened has a first block, and a whole file is told by two events. Assumes nothing.
-use Prim.Native.Nat.{_-_}
 use borrow.Author.Needs.{needs}
 use Rattle.octets.proofs.Lists.{unmap}
+use Rattle.events.specs.Event.{at}
+use Rattle.state.specs.Slots.{stationOf}
 use Rattle.state.specs.Sound.{Sized}
-use Rattle.judge.specs.Event.{at}
 use Rattle.judge.proofs.Flat.{tells-one}
-use Rattle.judge.proofs.Writing.{opened-store, opened-owners, opened-first}
+use Rattle.judge.proofs.Writing.{opened-owners, opened-first}
 use Rattle.judge.proofs.Telling.{tells-as, tells-then, opened-first-packet, opened-whole-file}
 use Rattle.judge.proofs.open_at.Statement.{statement}
 use Rattle.judge.proofs.open_at.Tie as tie
 
-sized : (c : tie.Start) → Sized (c .args .s)
-sized c = search (needs, unmap)
+sized : (c : tie.Start) → Sized (stationOf (c .args .head) (c .args .owner .now) (c .args .slots))
+sized c =
+    record { watched = search (needs, unmap); desks = search (needs, unmap); owner = c .pre .0 .owners; slots = search (needs, unmap) }
 
 abbrev entry : tie.After-open-file → tie.Start
-entry c = c .before .before .before .before .before .before
+entry c = c .before .before .before .before .before .before .before
 
 abbrev opening : tie.After-write → tie.After-open-file
-opening c = c .before .before .before .before .before
+opening c = c .before .before .before .before
 
 open-file-requires : tie.Need-open-file-requires
 open-file-requires c κs = search needs
 
 write-requires : tie.Need-write-requires
 write-requires c κs =
-    let o = c .before .before .before .before in
+    let o = c .before .before .before in
     let i = entry o in
     let S = i .pre .0 .sound in
     let owners = opened-owners _ _ (sized i) S (o .open-file .ensures) in
-    let blocks = opened-store _ _ (sized i) S (o .open-file .ensures) in
-    let first = opened-first _ _ (sized i) S (o .open-file .ensures) (i .pre .1 .1) (search needs) (search needs) in
+    let first = opened-first _ _ (sized i) S (o .open-file .ensures) (i .pre .1 .1) (i .pre .1 .2) (i .pre .1 .3) in
     search needs
 
 cast-emit : tie.Need-cast-emit

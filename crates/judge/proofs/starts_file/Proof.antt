@@ -1,5 +1,4 @@
 -- `judge::starts_file` meets its contract, by its test. Assumes nothing.
-use Prim.Native.Nat.{_-_}
 use Rattle.octets.proofs.Tests.{tests}
 use Rattle.judge.proofs.starts_file.Statement.{statement}
 use Rattle.judge.proofs.starts_file.Tie as tie

@@ -1,5 +1,5 @@
 -- `judge::write` meets its contract: the block at a place that the slot has is one of the store, so that the data fits. Assumes nothing.
-use Prim.Native.Nat.{_-_, _<_}
+use Prim.Native.Nat.{_<_}
 use native.Mathlib.Omega.{arith}
 use borrow.Author.Needs.{needs}
 use Rattle.judge.proofs.Writing.{block-is, block-low}

@@ -1,4 +1,4 @@
--- `room::let_go` meets its contract: a slot has no more blocks than the store, so all of them go back. Assumes nothing.
+-- `room::let_go` meets its contract: the blocks that became free are those of the slot. Assumes nothing.
 use borrow.Author.Needs.{needs}
 use Rattle.room.proofs.Given.{is-letGo}
 use Rattle.room.proofs.let_go.Statement.{statement}
@@ -7,36 +7,36 @@ use Rattle.room.proofs.let_go.Tie as tie
 cast-n : tie.Need-cast-n
 cast-n c = search needs
 
-cast-move-blocks : tie.Need-cast-move-blocks
-cast-move-blocks c = search needs
+cast-free-blocks : tie.Need-cast-free-blocks
+cast-free-blocks c = search needs
 
-add-move-blocks : tie.Need-add-move-blocks
-add-move-blocks c = search needs
+add-free-blocks : tie.Need-add-free-blocks
+add-free-blocks c = search needs
 
-move-blocks-requires : tie.Need-move-blocks-requires
-move-blocks-requires c κs = search needs
+free-blocks-requires : tie.Need-free-blocks-requires
+free-blocks-requires c κs = search needs
 
 none-requires : tie.Need-none-requires
 none-requires c κs = search needs
 
-mul-empty : tie.Need-mul-empty
-mul-empty c = search needs
+mul-after : tie.Need-mul-after
+mul-after c = search needs
 
-element-set-from-empty : tie.Need-element-set-from-empty
-element-set-from-empty c = search needs
+array-set-from-after : tie.Need-array-set-from-after
+array-set-from-after c = search needs
 
 returns : tie.Need-returns
-returns c = is-letGo _ _ _ (c .none .ensures) (c .before .move-blocks .ensures)
+returns c = is-letGo _ _ _ (c .none .ensures) (c .before .free-blocks .ensures)
 
 pub let-go-spec : {M : Type 1} → statement M
 let-go-spec =
     tie.close
     (tie.spec
     cast-n
-    cast-move-blocks
-    add-move-blocks
-    move-blocks-requires
+    cast-free-blocks
+    add-free-blocks
+    free-blocks-requires
     none-requires
-    mul-empty
-    element-set-from-empty
+    mul-after
+    array-set-from-after
     returns)

@@ -5,8 +5,9 @@ use Prim.Native.Nat.{_-_, _^_, _<_}
 use native.Mathlib.Omega.{arith}
 use borrow.Author.Needs.{needs}
 use Rattle.octets.proofs.Lists.{unmap}
+use Rattle.transport.proofs.Length.{need-small}
 use Rattle.state.proofs.Fits.{bits-fit}
-use Rattle.room.proofs.Find.{Summing, summing-first, summing-held, summing-free, summing-all, need-small}
+use Rattle.room.proofs.Find.{Summing, summing-first, summing-held, summing-free, summing-all}
 use Rattle.room.proofs.needs.Statement.{statement}
 use Rattle.room.proofs.needs.Tie as tie
 

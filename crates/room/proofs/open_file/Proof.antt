@@ -19,11 +19,11 @@ need-requires c κs = search needs
 move-blocks-requires : tie.Need-move-blocks-requires
 move-blocks-requires c κs = search needs
 
-mul-x : tie.Need-mul-x
-mul-x c = search needs
+mul-after : tie.Need-mul-after
+mul-after c = search needs
 
-element-set-from-x : tie.Need-element-set-from-x
-element-set-from-x c = search needs
+array-set-from-after : tie.Need-array-set-from-after
+array-set-from-after c = search needs
 
 returns : tie.Need-returns
 returns c = is-opened _ _ _ _ (c .before .need .ensures) (c .move-blocks .ensures)
@@ -37,6 +37,6 @@ open-file-spec =
     add-move-blocks
     need-requires
     move-blocks-requires
-    mul-x
-    element-set-from-x
+    mul-after
+    array-set-from-after
     returns)

@@ -1,12 +1,11 @@
--- `judge::emit` meets its contract: three stores are one run. Assumes nothing.
+-- `events::emit` meets its contract: three stores are one run. Assumes nothing.
 use mathlib.Core.Path.{refl}
-use Prim.Native.Nat.{_-_}
 use native.Mathlib.Omega.{arith}
 use borrow.Author.Needs.{needs}
 use lib.ListN.{length-set}
 use Rattle.octets.proofs.Put.{put-three}
-use Rattle.judge.proofs.emit.Statement.{statement}
-use Rattle.judge.proofs.emit.Tie as tie
+use Rattle.events.proofs.emit.Statement.{statement}
+use Rattle.events.proofs.emit.Tie as tie
 
 mul-at : tie.Need-mul-at
 mul-at c = search needs

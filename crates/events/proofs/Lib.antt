@@ -1,0 +1,2 @@
+-- Laws of the events as the list holds them.
+pub mod Flat

@@ -1,0 +1,2 @@
+-- The event list. The paper: Event.
+pub mod Event
