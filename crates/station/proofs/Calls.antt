@@ -38,14 +38,14 @@ use Rattle.room.specs.Move.{letGo}
 use Rattle.room.specs.File.{fileOctets}
 use Rattle.room.proofs.Keeps.{refiled-sized, refiled-desks, letGo-refiles, letGo-sound}
 use Rattle.station.specs.SetUp.{SetUpOutcome, setUpGives, desksFit, wholeBlocks, freshStation, setUp}
-use Rattle.station.specs.Files.{answered, isHeld, asked, releasedAs, released, droppedAs, dropped, ReadOutcome, readGives, storeFits, within, readAs, readOut}
+use Rattle.station.specs.Files.{answered, isHeld, asked, letGoAs, released, dropped, ReadOutcome, readGives, storeFits, within, readAs, readOut}
 use Rattle.station.specs.declared.Answered.{Answered}
 use Rattle.station.specs.declared.Asked.{Asked}
 use Rattle.station.specs.declared.Asked.the-variants as asks
 use Rattle.station.specs.declared.Asked.the-variants.{Complete, Incomplete}
-use Rattle.station.specs.Frame.{FrameOutcome, frameGives, taken, examinedFrame, framed}
+use Rattle.station.specs.Frame.{FrameOutcome, frameGives, admitted, taken, examinedFrame, framed}
 use Rattle.octets.specs.Reasons.{Reason, decided, applies}
-use Rattle.station.specs.Answers.{Ready, setUpSays, slotSays, releaseSays, dropSays, readSays, headerSays, frameSays, seat, acceptedAs, walkedAs}
+use Rattle.station.specs.Answers.{SoundWithMemory, setUpSays, slotSays, releaseSays, dropSays, readSays, frameHeaderSays, frameSays, seat, acceptedAs, walkedAs}
 use Rattle.octets.specs.Reasons.Reason.{_when_}
 use Rattle.station.proofs.Asking.{complete-held}
 use Rattle.octets.proofs.Reasons.{None}
@@ -70,12 +70,12 @@ if-not false x y = refl
 
 module _ (s : Station) (k : ℕ) where
   pub release-is : released s k ≡ decided (releaseSays s k) (answered 0 (letGo s k)) (λ (n : ℕ). answered n s)
-  unfolding released releasedAs
-  release-is = asked-is (releasedAs s) s k ∙ rw (if-not (complete (slotAt s k)))
+  unfolding released letGoAs
+  release-is = asked-is (letGoAs s 0 12) s k ∙ rw (if-not (complete (slotAt s k)))
 
   pub drop-is : dropped s k ≡ decided (dropSays s k) (answered 0 (letGo s k)) (λ (n : ℕ). answered n s)
-  unfolding dropped droppedAs
-  drop-is = asked-is (droppedAs s) s k
+  unfolding dropped letGoAs
+  drop-is = asked-is (letGoAs s 13 0) s k
 
   pub read-is : (store : List ℕ) (offset : ℕ) (buffer : List ℕ) → readOut s store k offset buffer
       ≡ decided (readSays s store k offset (length buffer)) (readGives 0 (part offset (length buffer) (fileOctets s store k)))
@@ -106,7 +106,7 @@ module _ {A : Type 0} (g : Examined → A) (h : Frame) (few : h .pointer < 2048)
   pointed-is : (d : ℕ) (m : Pointer) → Means (h .pointer) m
       → g (pointed d h m)
       ≡ (if leb 884 (h .pointer) && leb (h .pointer) 2046 then g (Refused 9)
-      else g (Good (record { desk = d; counter = h .counter; pointer = h .pointer })))
+      else g (Good (record { desk = d; counter = h .counter; pointer = m })))
   pointed-is d (Offset q) (same, low) = rw (lt-leb 884 (h .pointer) low)
   pointed-is d NoStart e = rw (lt-leb (h .pointer) 2046 (omega arith), and-false)
   pointed-is d pointer.Refused (from, other) = rw (le-leb 884 (h .pointer) from, le-leb (h .pointer) 2046 (omega arith))
@@ -114,12 +114,12 @@ module _ {A : Type 0} (g : Examined → A) (h : Frame) (few : h .pointer < 2048)
   watched-is : (w : Watch) → g (watchedBy h w)
       ≡ (if not (hasSeat w) then g (Refused 8)
       else if leb 884 (h .pointer) && leb (h .pointer) 2046 then g (Refused 9)
-      else g (Good (record { desk = seat w; counter = h .counter; pointer = h .pointer })))
+      else g (Good (record { desk = seat w; counter = h .counter; pointer = pointerMeaning (h .pointer) })))
   watched-is (Desk d) = pointed-is d (pointerMeaning (h .pointer)) (means (h .pointer))
   watched-is NotWatched = refl
 
   header-is : (s : Station) → g (examinedHeader (s .spacecraft) (take (s .channels) (s .watched)) h)
-      ≡ decided (headerSays s h) (g (Good (acceptedAs s h))) (λ (n : ℕ). g (Refused n))
+      ≡ decided (frameHeaderSays s h) (g (Good (acceptedAs s h))) (λ (n : ℕ). g (Refused n))
   unfolding examinedHeader deskOf
   header-is s =
       let ws = take (s .channels) (s .watched) in
@@ -128,7 +128,7 @@ module _ {A : Type 0} (g : Examined → A) (h : Frame) (few : h .pointer < 2048)
 module _ (s : Station) (desks store list f : List ℕ) where
   pub frame-is : framed s desks store list f
       ≡ decided (frameSays s desks store list f) (taken s list (walkedAs s desks store f)) (λ (n : ℕ). frameGives n 0 s desks store list)
-  unfolding framed examined examinedFrame
+  unfolding framed admitted examined examinedFrame
   frame-is =
       let g = examinedFrame s desks store list f in
       simp (if-map g, header-is g (frameOf (derandomised f)) (bounded (derandomised f) .pointer) s)
@@ -314,7 +314,7 @@ module _ {s : Station} (k : ℕ) {rs : List Reason} {r : Answered} (g : Goes s k
   unfolding letGo
   goes-fits = goes-cases (λ (t : Station). (t .channels ≡ s .channels) × (t .blocks ≡ s .blocks)) (λ low. (refl, refl)) (refl, refl)
 
-  pub goes-ready : (desks store : List ℕ) → Ready s desks store → Ready (r .station) desks store
+  pub goes-ready : (desks store : List ℕ) → SoundWithMemory s desks store → SoundWithMemory (r .station) desks store
   goes-ready desks store h =
       record {
         sized = goes-sized (h .sized);
@@ -326,7 +326,7 @@ module _ {s : Station} (k : ℕ) {rs : List Reason} {r : Answered} (g : Goes s k
 
 module _ (craft : ℕ) (channels desks store : List ℕ) where
   fresh-ready : goodChannels channels ≡ true → desksFit (length channels) desks ≡ true → wholeBlocks store ≡ true
-      → Ready (freshStation craft channels (length store / 8190)) (replicate (length desks) 0) store
+      → SoundWithMemory (freshStation craft channels (length store / 8190)) (replicate (length desks) 0) store
   unfolding freshStation
   fresh-ready good fit whole =
       let n = length store / 8190 in
@@ -342,7 +342,7 @@ module _ (craft : ℕ) (channels desks store : List ℕ) where
 
   -- a set-up answered by 0
   pub setUp-ready : setUp craft channels desks store .answer ≡ 0
-      → Ready (setUp craft channels desks store .station) (setUp craft channels desks store .desks) store
+      → SoundWithMemory (setUp craft channels desks store .station) (setUp craft channels desks store .desks) store
   setUp-ready e =
       let (good, fit, whole) = setUp-zero craft channels desks store .0 e in
       rw (setUp-outcome craft channels desks store .done e) (fresh-ready good fit whole)

@@ -6,4 +6,5 @@ pub mod Decided
 pub mod Calls
 pub mod Sorted
 pub mod Frames
+pub mod Handed
 pub mod Wild

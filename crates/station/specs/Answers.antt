@@ -13,7 +13,7 @@ use Rattle.frame.specs.declared.Frame.{Frame}
 use Rattle.frame.specs.declared.Watch.{Watch}
 use Rattle.frame.specs.declared.Watch.the-variants.{Desk, NotWatched}
 use Rattle.frame.specs.Kinds.{deskOf}
-use Rattle.frame.specs.Header.{marker, startsWith, derandomised, frameOf, zoneOf}
+use Rattle.frame.specs.Header.{marker, startsWith, derandomised, frameOf, zoneOf, pointerMeaning}
 use Rattle.transport.specs.Length.{octetsOfBits}
 use Rattle.state.specs.declared.Station.{Station}
 use Rattle.state.specs.Slots.{slotAt, complete, named}
@@ -47,8 +47,8 @@ readSays s store k offset n =
     ((12 when not (complete (slotAt s k))) ∷ (14 when not (within (octetsOfBits (slotAt s k .bits)) offset n)) ∷ [])
 
 -- a frame whose header, derandomised, is h; the pointer has 11 bits
-abbrev pub headerSays : Station → Frame → List Reason
-headerSays s h =
+abbrev pub frameHeaderSays : Station → Frame → List Reason
+frameHeaderSays s h =
     (5 when not (eqb (h .version) 1))
     ∷ (6 when not (eqb (h .spacecraft) (s .spacecraft)))
     ∷ (7 when eqb (h .channel .0) 63)
@@ -62,7 +62,7 @@ frameSays s desks store list f =
     ∷ (2 when not (isSound s && areDesksSound s desks))
     ∷ (3 when not (eqb (length f) 1024))
     ∷ (4 when not (startsWith marker f))
-    ∷ headerSays s (frameOf (derandomised f))
+    ∷ frameHeaderSays s (frameOf (derandomised f))
 
 -- the place of a channel that is watched
 abbrev pub seat : Watch → ℕ
@@ -72,7 +72,7 @@ seat NotWatched = 0
 -- a frame for which none of these applies: its desk is that of its channel, "in the order named"
 abbrev pub acceptedAs : Station → Frame → Accepted
 acceptedAs s h =
-    record { desk = seat (deskOf (take (s .channels) (s .watched)) (h .channel)); counter = h .counter; pointer = h .pointer }
+    record { desk = seat (deskOf (take (s .channels) (s .watched)) (h .channel)); counter = h .counter; pointer = pointerMeaning (h .pointer) }
 
 -- and what comes of it
 abbrev pub walkedAs : Station → List ℕ → List ℕ → List ℕ → Walked
@@ -82,7 +82,7 @@ walkedAs s desks store f =
 
 -- a sound state, and desks and store of its size, with the desks' octets in order: what a set-up answered by 0 hands over, and every call
 -- leaves
-pub record Ready (s : Station) (d m : List ℕ) : Type 0 where
+pub record SoundWithMemory (s : Station) (d m : List ℕ) : Type 0 where
   pub sized : Sized s
   pub sound : Sound s
   pub desks : DesksSound s d

@@ -31,23 +31,23 @@ asked s k =
     else if complete (slotAt s k) then Complete k
     else Incomplete k
 
--- "12: .. release of an incomplete file"
-unfoldable pub releasedAs : Station → Asked → Answered
-releasedAs s (Refused n) = answered n s
-releasedAs s (Incomplete k) = answered 12 s
-releasedAs s (Complete k) = answered 0 (letGo s k)
+-- what an answer does to the file of slot k: 0 lets it go, and "Every number but 0 .. changes nothing"
+abbrev pub goneBy : Station → ℕ → ℕ → Answered
+goneBy s k n = answered n (if eqb n 0 then letGo s k else s)
 
+-- a call that lets a file go, by its answer for a complete file and its answer for an incomplete one
+unfoldable pub letGoAs : Station → ℕ → ℕ → Asked → Answered
+letGoAs s whole part (Refused n) = answered n s
+letGoAs s whole part (Complete k) = goneBy s k whole
+letGoAs s whole part (Incomplete k) = goneBy s k part
+
+-- "12: .. release of an incomplete file"
 unfoldable pub released : Station → ℕ → Answered
-released s k = releasedAs s (asked s k)
+released s k = letGoAs s 0 12 (asked s k)
 
 -- "13: drop of a complete one"
-unfoldable pub droppedAs : Station → Asked → Answered
-droppedAs s (Refused n) = answered n s
-droppedAs s (Incomplete k) = answered 0 (letGo s k)
-droppedAs s (Complete k) = answered 13 s
-
 unfoldable pub dropped : Station → ℕ → Answered
-dropped s k = droppedAs s (asked s k)
+dropped s k = letGoAs s 13 0 (asked s k)
 
 -- everything that comes out of a read; state and store stay, for they are taken by value and lent for reading
 pub record ReadOutcome : Type 0 where

@@ -11,10 +11,13 @@ use Rattle.frame.specs.declared.Examined.{Examined}
 use Rattle.frame.specs.declared.Examined.the-variants.{Refused, Good}
 use Rattle.frame.specs.Header.{derandomised, zoneOf}
 use Rattle.frame.specs.Refusals.{examined}
+use Rattle.state.specs.declared.Head.{Head}
 use Rattle.state.specs.declared.Station.{Station}
+use Rattle.state.specs.Slots.{stationOf}
 use Rattle.state.specs.Decision.{isSound, areDesksSound}
-use Rattle.judge.specs.Event.{flat}
-use Rattle.zone.specs.Walk.{Walked, walked}
+use Rattle.events.specs.Event.{flat}
+use Rattle.zone.specs.Walk.{withDesk, Walked, walked}
+use Rattle.station.specs.declared.Outcome.{Outcome}
 use Rattle.station.specs.SetUp.{desksFit, channelOf}
 use Rattle.station.specs.Files.{storeFits}
 
@@ -31,6 +34,11 @@ abbrev pub frameGives : ℕ → ℕ → Station → List ℕ → List ℕ → Li
 frameGives n count s desks store list =
     record { answer = n; events = count; station = s; desks = desks; store = store; list = list }
 
+-- the same, from the parts of the state that a frame can change: the owners, the slots, and what the state keeps of one desk
+abbrev pub outcomeOf : Head → List ℕ → Outcome → List ℕ → List ℕ → List ℕ → FrameOutcome
+outcomeOf head owner o desks store list =
+    frameGives (o .answer) (o .events) (withDesk (stationOf head owner (o .slots)) (o .desk) (o .position)) desks store list
+
 -- "1: desks not 8,198 octets a channel; store not whole blocks, 1 to 4,096, as many as at set-up; for a frame, fewer than 900 event numbers"
 abbrev pub lentRight : Station → List ℕ → List ℕ → List ℕ → Bool
 lentRight s desks store list = desksFit (s .channels) desks && storeFits (s .blocks) store && leb 900 (length list)
@@ -38,6 +46,13 @@ lentRight s desks store list = desksFit (s .channels) desks && storeFits (s .blo
 -- the channel of desk i
 abbrev pub channelAt : Station → ℕ → Channel
 channelAt s i = getD (s .watched) i (channelOf 0)
+
+-- refusals 1 to 9: "The lowest number that applies is given"
+unfoldable pub admitted : Station → List ℕ → List ℕ → List ℕ → List ℕ → Examined
+admitted s desks store list f =
+    if not (lentRight s desks store list) then Refused 1
+    else if not (isSound s && areDesksSound s desks) then Refused 2
+    else examined (s .spacecraft) (take (s .channels) (s .watched)) f
 
 -- "After 0 the events fill the list from its start and the rest of it stays."
 abbrev pub taken : Station → List ℕ → Walked → FrameOutcome
@@ -49,9 +64,5 @@ examinedFrame s desks store list f (Refused n) = frameGives n 0 s desks store li
 examinedFrame s desks store list f (Good a) =
     taken s list (walked (channelAt s (a .desk)) s desks store (zoneOf (derandomised f)) a)
 
--- "The lowest number that applies is given"
 unfoldable pub framed : Station → List ℕ → List ℕ → List ℕ → List ℕ → FrameOutcome
-framed s desks store list f =
-    if not (lentRight s desks store list) then frameGives 1 0 s desks store list
-    else if not (isSound s && areDesksSound s desks) then frameGives 2 0 s desks store list
-    else examinedFrame s desks store list f (examined (s .spacecraft) (take (s .channels) (s .watched)) f)
+framed s desks store list f = examinedFrame s desks store list f (admitted s desks store list f)

@@ -2,12 +2,15 @@
 //
 // A state goes in by value and comes back by value; desks, store, event list and buffers are lent. No call asks anything of what comes in.
 // Each contract is one equation between everything that comes out and a definition in specs/ of what came in.
+use events::Event;
+use frame::Accepted;
 use frame::Channel;
 use frame::CheckedChannel;
 use frame::Examined;
 use frame::Frame;
-use judge::Event;
 use state::Desk;
+use state::Head;
+use state::Slot;
 use state::Station;
 use transport::Transport;
 ghost use mathlib.Core.Path.{_≡_};
@@ -16,12 +19,15 @@ ghost use mathlib.Core.List.{_++_, map};
 ghost use Prim.Native.Nat.{_-_, _≤_, _<_};
 ghost use lib.Dec.{leb};
 ghost use lib.ListN.{length, replicate};
-ghost use Rattle.state.specs.Slots.{allZeroState, slotAt, complete};
+ghost use Rattle.frame.specs.Header.{derandomised};
+ghost use Rattle.state.specs.Slots.{allZeroState, slotAt, complete, stationOf};
+ghost use Rattle.state.specs.Sound.{DesksSound};
 ghost use Rattle.state.specs.Decision.{goodChannels, isSound};
-ghost use Rattle.room.specs.Move.{letGo};
+ghost use Rattle.zone.specs.Walk.{walked};
+ghost use Rattle.zone.specs.Contract.{Lent};
 ghost use Rattle.station.specs.SetUp.{setUpGives, desksFit, wholeBlocks, channelOf, freshStation, setUp};
-ghost use Rattle.station.specs.Files.{answered, asked, released, dropped, storeFits, readGives, readAs, readOut};
-ghost use Rattle.station.specs.Frame.{frameGives, framed};
+ghost use Rattle.station.specs.Files.{answered, asked, goneBy, letGoAs, released, dropped, storeFits, readGives, readAs, readOut};
+ghost use Rattle.station.specs.Frame.{frameGives, outcomeOf, channelAt, admitted, taken, framed};
 
 // The least numbers of an event list.
 const LEAST_LIST: usize = Event::NUMBERS * Event::MOST;
@@ -142,37 +148,46 @@ fn ask(s: Station, slot: u16) -> Asked
     Asked::Incomplete(k)
 }
 
-// The file of slot k let go.
-fn gone(s: Station, k: usize) -> Answered
+// The file of slot k let go, if this is the answer 0.
+fn gone_by(s: Station, k: usize, answer: u8) -> Answered
     requires { ⌜ (k < 32) × (s .blocks ≤ 4096) ⌝ }
-    ensures { λ r. ⌜ r ≡ answered 0 (letGo s k) ⌝ }
+    ensures { λ r. ⌜ r ≡ goneBy s k answer ⌝ }
 {
-    let after = room::let_go(s, k);
-    say(0, after)
+    if answer != 0 {
+        return say(answer, s);
+    }
+    let mut t = s;
+    let head = s.head();
+    let slots = s.slots;
+    let after = room::let_go(head, &mut t.owner, slots, k);
+    t.slots = after;
+    say(0, t)
+}
+
+// What release and drop share: the answer for a complete file, and the one for an incomplete file.
+fn let_go_as(s: Station, slot: u16, complete: u8, incomplete: u8) -> Answered
+    ensures { λ r. ⌜ r ≡ letGoAs s complete incomplete (asked s slot) ⌝ }
+{
+    let a = ask(s, slot);
+    match a {
+        Asked::Refused(n) => say(n, s),
+        Asked::Complete(k) => gone_by(s, k, complete),
+        Asked::Incomplete(k) => gone_by(s, k, incomplete),
+    }
 }
 
 // Lets a complete file go. Answers 0, 2, 11 or 12.
 pub fn release(s: Station, slot: u16) -> Answered
     ensures { λ r. ⌜ r ≡ released s slot ⌝ }
 {
-    let a = ask(s, slot);
-    match a {
-        Asked::Refused(n) => say(n, s),
-        Asked::Incomplete(_) => say(12, s),
-        Asked::Complete(k) => gone(s, k),
-    }
+    let_go_as(s, slot, 0, 12)
 }
 
 // Lets an incomplete file go. Answers 0, 2, 11 or 13.
 pub fn drop_file(s: Station, slot: u16) -> Answered
     ensures { λ r. ⌜ r ≡ dropped s slot ⌝ }
 {
-    let a = ask(s, slot);
-    match a {
-        Asked::Refused(n) => say(n, s),
-        Asked::Incomplete(k) => gone(s, k),
-        Asked::Complete(_) => say(13, s),
-    }
+    let_go_as(s, slot, 13, 0)
 }
 
 // Whether the store lent has as many octets as the state's blocks.
@@ -230,16 +245,6 @@ pub struct Framed {
     pub station: Station,
 }
 
-fn refuse(answer: u8, station: Station) -> Framed
-    ensures { λ r. ⌜ r ≡ record { answer = answer; events = 0; station = station } ⌝ }
-{
-    Framed {
-        answer: answer,
-        events: 0,
-        station: station,
-    }
-}
-
 // Whether desks, store and event list are lent as a state of so many channels and blocks asks.
 fn lent_right(channels: u8, blocks: u16, desks: &[u8], store: &[u8], list: &[u16]) -> bool
     ensures { λ r. ⌜ r ≡ (desksFit channels (now (desks .entry)) && storeFits blocks (now (store .entry)) && leb 900 (length (now (list .entry)))) ⌝ }
@@ -253,6 +258,108 @@ fn lent_right(channels: u8, blocks: u16, desks: &[u8], store: &[u8], list: &[u16
     list.len() >= LEAST_LIST
 }
 
+// Refusals 1 to 9. The scratch octets hold the derandomised frame afterwards, if it is not refused.
+fn admit(
+    head: Head,
+    owner: &[u8],
+    slots: [Slot; Station::SLOTS],
+    desks: &[u8],
+    store: &[u8],
+    list: &[u16],
+    octets: &[u8],
+    plain: &mut [u8],
+) -> Examined
+    requires { ⌜ (length (now owner) ≡ 4096) × (length (now plain) ≡ 1020) ⌝ }
+    ensures { λ r. ⌜ r ≡ admitted (stationOf head (now (owner .entry)) slots) (now (desks .entry)) (now (store .entry)) (now (list .entry)) (now (octets .entry)) ⌝ }
+    ensures { λ r. ⌜ ((a : Accepted) → r ≡ Examined.Good a → now (plain .exit) ≡ derandomised (now (octets .entry))) ⌝ }
+{
+    if !lent_right(head.channels, head.blocks, desks, store, list) {
+        return Examined::Refused(1);
+    }
+    if !state::are_parts_sound(head, owner, slots) {
+        return Examined::Refused(2);
+    }
+    let positions = head.desks;
+    if !state::are_desks_sound(positions, head.channels, desks) {
+        return Examined::Refused(2);
+    }
+    let watched = head.watched;
+    frame::examine(octets, plain, head.spacecraft, watched, head.channels)
+}
+
+// What comes of a frame: its answer and events, its desk with what that keeps now, and the slots.
+struct Outcome {
+    answer: u8,
+    events: usize,
+    desk: usize,
+    position: Desk,
+    slots: [Slot; Station::SLOTS],
+}
+
+// A frame that is not refused.
+fn take_accepted(
+    a: Accepted,
+    head: Head,
+    owner: &mut [u8; Station::MOST_BLOCKS as usize],
+    slots: [Slot; Station::SLOTS],
+    zone: &[u8],
+    desks: &mut [u8],
+    store: &mut [u8],
+    list: &mut [u16],
+) -> Outcome
+    requires { ⌜ Lent (channelAt (stationOf head (now owner) slots) (a .desk)) (stationOf head (now owner) slots) a (now zone) (now desks) (now store) (now list) ⌝ }
+    requires { ⌜ DesksSound (stationOf head (now owner) slots) (now desks) ⌝ }
+    ensures { λ r. ⌜ r .desk < 8 ⌝ }
+    ensures { λ r. ⌜ outcomeOf head (now (owner .exit)) r (now (desks .exit)) (now (store .exit)) (now (list .exit)) ≡ taken (stationOf head (now (owner .entry)) slots) (now (list .entry)) (walked (channelAt (stationOf head (now (owner .entry)) slots) (a .desk)) (stationOf head (now (owner .entry)) slots) (now (desks .entry)) (now (store .entry)) (now (zone .entry)) a) ⌝ }
+{
+    let i = a.desk;
+    let channel = head.watched[i];
+    let done = zone::walk_frame(channel, head, owner, slots, a, zone, desks, store, list);
+    let after = done.slots;
+    let position = done.desk;
+    Outcome {
+        answer: 0,
+        events: done.events,
+        desk: i,
+        position: position,
+        slots: after,
+    }
+}
+
+// The frame call on the parts of a state. Where nothing changes, the first desk gets what it has.
+fn take_parts(
+    head: Head,
+    owner: &mut [u8; Station::MOST_BLOCKS as usize],
+    slots: [Slot; Station::SLOTS],
+    octets: &[u8],
+    desks: &mut [u8],
+    store: &mut [u8],
+    list: &mut [u16],
+) -> Outcome
+    requires { ⌜ length (now owner) ≡ 4096 ⌝ }
+    ensures { λ r. ⌜ r .desk < 8 ⌝ }
+    ensures { λ r. ⌜ outcomeOf head (now (owner .exit)) r (now (desks .exit)) (now (store .exit)) (now (list .exit)) ≡ framed (stationOf head (now (owner .entry)) slots) (now (desks .entry)) (now (store .entry)) (now (list .entry)) (now (octets .entry)) ⌝ }
+{
+    let mut plain = [0u8; Frame::CODED];
+    let e = admit(head, owner, slots, desks, store, list, octets, &mut plain);
+    match e {
+        Examined::Refused(n) => {
+            let position = head.desks[0];
+            return Outcome {
+                answer: n,
+                events: 0,
+                desk: 0,
+                position: position,
+                slots: slots,
+            };
+        }
+        Examined::Good(a) => {
+            let zone = &plain[Frame::ZONE_AT..Frame::UNIT];
+            return take_accepted(a, head, owner, slots, zone, desks, store, list);
+        }
+    }
+}
+
 // One frame. Answers 0 to 9; after 0 the events fill the list from its start.
 pub fn take_frame(
     s: Station,
@@ -263,41 +370,27 @@ pub fn take_frame(
 ) -> Framed
     ensures { λ r. ⌜ frameGives (r .answer) (r .events) (r .station) (now (desks .exit)) (now (store .exit)) (now (list .exit)) ≡ framed s (now (desks .entry)) (now (store .entry)) (now (list .entry)) (now (octets .entry)) ⌝ }
 {
-    if !lent_right(s.channels, s.blocks, desks, store, list) {
-        return refuse(1, s);
-    }
-    if !state::is_sound(s) {
-        return refuse(2, s);
-    }
-    let positions = s.desks;
-    if !state::are_desks_sound(positions, s.channels, desks) {
-        return refuse(2, s);
-    }
-    let mut plain = [0u8; Frame::CODED];
-    let watched = s.watched;
-    let examined = frame::examine(octets, &mut plain, s.spacecraft, watched, s.channels);
-    match examined {
-        Examined::Refused(n) => {
-            return refuse(n, s);
-        }
-        Examined::Good(a) => {
-            let i = a.desk;
-            let channel = watched[i];
-            let done = zone::walk_frame(
-                channel,
-                s,
-                a,
-                &plain[Frame::ZONE_AT..Frame::UNIT],
-                desks,
-                store,
-                list,
-            );
-            let station = done.station;
-            return Framed {
-                answer: 0,
-                events: done.events,
-                station: station,
-            };
-        }
+    // The head is taken field by field: a call for it would copy the whole state.
+    let mut t = s;
+    let watched = t.watched;
+    let positions = t.desks;
+    let slots = t.slots;
+    let head = Head {
+        spacecraft: t.spacecraft,
+        channels: t.channels,
+        watched: watched,
+        desks: positions,
+        blocks: t.blocks,
+    };
+    let o = take_parts(head, &mut t.owner, slots, octets, desks, store, list);
+    let i = o.desk;
+    let position = o.position;
+    let after = o.slots;
+    t.slots = after;
+    t.desks[i] = position;
+    Framed {
+        answer: o.answer,
+        events: o.events,
+        station: t,
     }
 }

@@ -12,7 +12,7 @@ use Rattle.octets.specs.Buffer.{put}
 use Rattle.octets.proofs.Put.{put-nil, length-put}
 use Rattle.frame.specs.declared.Accepted.{Accepted}
 use Rattle.frame.specs.declared.Channel.{Channel}
-use Rattle.frame.specs.Header.{pointerMeaning}
+use Rattle.frame.specs.declared.Pointer.{Pointer}
 use Rattle.packet.specs.declared.Packet.{Packet}
 use Rattle.packet.specs.declared.Look.{Look}
 use Rattle.packet.specs.declared.Look.the-variants.{Short, Bad, Good}
@@ -21,26 +21,27 @@ use Rattle.packet.proofs.Looks.{look-good, look-tells}
 use Rattle.state.specs.declared.Station.{Station}
 use Rattle.state.specs.Slots.{deskAt}
 use Rattle.state.specs.Sound.{Sized}
-use Rattle.judge.specs.declared.Told.{Told}
-use Rattle.judge.specs.Event.{Event, bare, flat}
+use Rattle.events.specs.Event.{Event, bare, flat}
 use Rattle.judge.specs.Judge.{judged}
 use Rattle.judge.specs.Contract.{Whole, Tells as TellsJudged}
 use Rattle.judge.proofs.Keeps.{stays-watched, judged-stays, judged-store, judged-sound}
+use Rattle.judge.proofs.Parts.{whole-largest}
 use Rattle.judge.proofs.Few.{three}
-use Rattle.zone.specs.declared.Done.{Done}
-use Rattle.zone.specs.declared.Fate.{Fate}
-use Rattle.zone.specs.declared.Fate.the-variants.{Dropped, CarriedOn}
-use Rattle.zone.specs.Zone.{split, Reading, agrees, reading}
-use Rattle.zone.specs.Walk.{gap, heldAt, withHeld, Walked, walkedFrom, walked}
-use Rattle.zone.specs.Contract.{Lent, Carrying, startAt, leaves, fateOf, Tells, carried}
-use Rattle.zone.proofs.Split.{split-left, unfinished-few, look-carried, carried-lacks, carried-packet}
+use Rattle.zone.specs.declared.Sequel.{Sequel}
+use Rattle.zone.specs.declared.Sequel.the-variants.{Dropped, CarriedOn}
+use Rattle.zone.specs.Zone.{Split, split, Reading, agrees, reading}
+use Rattle.zone.specs.Walk.{judgedAll, gap, heldAt, withHeld, withDesk, deskAfter, Walked, walkedFrom, walked}
+use Rattle.zone.specs.Contract.{Lent, Going, Carrying, startAt, sequelOf, TellsWalked, Stops, walkedOn}
+use Rattle.zone.specs.Contract.Room.{by-packet}
+use Rattle.zone.proofs.Split.{split-left, split-one, unfinished-few, look-carried, carried-lacks, carried-packet}
 use Rattle.zone.proofs.Readings.{from-start, atPointer, onward, reading-none, reading-bad, reading-on, reading-dropped, reading-gap, reading-seamless}
 use Rattle.zone.proofs.Desks.{over-held, more-held, carried-cut}
-use Rattle.zone.proofs.Walks.{walked-from, from-carried, from-longer, held-length, desk-unfinished, led, from-led, tells-led}
+use Rattle.zone.proofs.Walks.{all-one, walked-from, from-carried, from-longer, held-length, desk-unfinished, led, from-led, tells-led}
 use Rattle.zone.proofs.Ends.{desk-fits}
 
 -- the same promise in other words
-pub tells-as : {w v : Walked} {n : ℕ} {list₀ list desks store : List ℕ} {r : Done} → w ≡ v → Tells v n list₀ r desks store list → Tells w n list₀ r desks store list
+pub tells-as : {w v : Walked} {n m : ℕ} {list₀ list desks store : List ℕ} {t : Station} → w ≡ v → TellsWalked v n list₀ t m desks store list
+    → TellsWalked w n list₀ t m desks store list
 tells-as e t = rw e t
 
 -- desks of which only the frame's differs, and that is set in order afterwards
@@ -60,97 +61,98 @@ module _ (c : Channel) (s : Station) (store : List ℕ) (a : Accepted) (desked d
 
   -- "After a drop .. reading begins at the pointer": event k, then what is read from there
   pub tells-dropped : (k : ℕ) {q : Reading} (zone : List ℕ) → q ≡ atPointer (bare k ∷ []) zone (a .pointer) → length zone ≡ 884
-      → {from : ℕ} → from ≡ startAt (pointerMeaning (a .pointer)) → {n : ℕ} {list₀ list : List ℕ} → n ≡ 0 + 1
+      → {from : ℕ} → from ≡ startAt (a .pointer) → {n : ℕ} {list₀ list : List ℕ} → n ≡ 0 + 1
       → list ≡ put list₀ (3 * 0) (k ∷ 0 ∷ 0 ∷ [])
-      → {r : Done} {desks₁ store₁ list₁ : List ℕ} → Tells (walkedFrom c s desked store a [] (drop from zone)) n list r desks₁ store₁ list₁
-      → Tells (walkedFrom c s desks store a (q .events) (q .octets)) 0 list₀ r desks₁ store₁ list₁
+      → {u : Station} {i : ℕ} {desks₁ store₁ list₁ : List ℕ} → TellsWalked (walkedFrom c s desked store a [] (drop from zone)) n list u i desks₁ store₁ list₁
+      → TellsWalked (walkedFrom c s desks store a (q .events) (q .octets)) 0 list₀ u i desks₁ store₁ list₁
   unfolding flat flatMap
   tells-dropped k zone e size {from} f m l t =
       let xs = drop from zone in
       let w : walkedFrom c s desks store a (bare k ∷ []) xs ≡ led (bare k ∷ []) (walkedFrom c s desked store a [] xs) =
       walked-alike (bare k ∷ []) xs ∙ from-led c s desked store a (bare k ∷ []) xs in
-      let at-start = from-start (pointerMeaning (a .pointer)) zone size ∙ ap (λ (i : ℕ). drop i zone) (sym f) in
+      let at-start = from-start (a .pointer) zone size ∙ ap (λ (i : ℕ). drop i zone) (sym f) in
       tells-as
       (ap (λ (v : Reading). walkedFrom c s desks store a (v .events) (v .octets)) e ∙ ap (walkedFrom c s desks store a (bare k ∷ [])) at-start ∙ w)
       (tells-led (bare k ∷ []) (rw (m, l) at t))
 
--- the fate of a held packet
-module _ (p held : ℕ) where
-  fate-good : (h : Packet) → fateOf (Good h) held p ≡ (if agrees (sizeOf h - held) p then CarriedOn (sizeOf h) else Dropped 2)
-  unfolding fateOf
-  fate-good h = refl
+-- the sequel of a held packet
+module _ (p : Pointer) (held : ℕ) where
+  sequel-good : (h : Packet) → sequelOf (Good h) held p ≡ (if agrees (sizeOf h - held) p then CarriedOn (sizeOf h) else Dropped 2)
+  unfolding sequelOf
+  sequel-good h = refl
 
-  fate-bad : fateOf Bad held p ≡ Dropped 3
-  unfolding fateOf
-  fate-bad = refl
+  sequel-bad : sequelOf Bad held p ≡ Dropped 3
+  unfolding sequelOf
+  sequel-bad = refl
 
-  pub fate-short : {l : Look} → l ≡ Short → Dropped 3 ≡ fateOf l held p
-  unfolding fateOf
-  fate-short e = sym (ap (λ (k : Look). fateOf k held p) e)
+  pub sequel-short : {l : Look} → l ≡ Short → Dropped 3 ≡ sequelOf l held p
+  unfolding sequelOf
+  sequel-short e = sym (ap (λ (k : Look). sequelOf k held p) e)
 
-  pub fate-spoilt : {l : Look} → l ≡ Bad → Dropped 3 ≡ fateOf l held p
-  unfolding fateOf
-  fate-spoilt e = sym (ap (λ (k : Look). fateOf k held p) e)
+  pub sequel-spoilt : {l : Look} → l ≡ Bad → Dropped 3 ≡ sequelOf l held p
+  unfolding sequelOf
+  sequel-spoilt e = sym (ap (λ (k : Look). sequelOf k held p) e)
 
   module _ {l : Look} {h : Packet} (e : l ≡ Good h) {size : ℕ} (n : size ≡ sizeOf h) {b : Bool} (f : b ≡ agrees (size - held) p) where
-    pub fate-agrees : b ≡ true → CarriedOn size ≡ fateOf l held p
-    unfolding fateOf
-    fate-agrees g = rw (e, ← n, ← f, g)
+    pub sequel-agrees : b ≡ true → CarriedOn size ≡ sequelOf l held p
+    unfolding sequelOf
+    sequel-agrees g = rw (e, ← n, ← f, g)
 
-    pub fate-differs : b ≡ false → Dropped 2 ≡ fateOf l held p
-    unfolding fateOf
-    fate-differs g = rw (e, ← n, ← f, g)
+    pub sequel-differs : b ≡ false → Dropped 2 ≡ sequelOf l held p
+    unfolding sequelOf
+    sequel-differs g = rw (e, ← n, ← f, g)
 
-module _ (xs zone : List ℕ) (p : ℕ) (some : 0 < length xs) (long : 6 ≤ length zone) where
+module _ (xs zone : List ℕ) (p : Pointer) (some : 0 < length xs) (long : 6 ≤ length zone) where
   few-not : lookOf (xs ++ zone) ≡ Short → ⊥
   few-not e = omega (arith, look-tells (xs ++ zone) e, length-append xs zone)
 
-  pub fate-dropped : {k : ℕ} → fateOf (lookOf (xs ++ zone)) (length xs) p ≡ Dropped k → reading xs zone p ≡ atPointer (bare k ∷ []) zone p
-  fate-dropped {k} f = by (lookOf (xs ++ zone)) refl
+  pub sequel-dropped : {k : ℕ} → sequelOf (lookOf (xs ++ zone)) (length xs) p ≡ Dropped k → reading xs zone p ≡ atPointer (bare k ∷ []) zone p
+  sequel-dropped {k} f = by (lookOf (xs ++ zone)) refl
     where
       good : (h : Packet) → lookOf (xs ++ zone) ≡ Good h → (b : Bool) → agrees (sizeOf h - length xs) p ≡ b
           → reading xs zone p ≡ atPointer (bare k ∷ []) zone p
       good h e true g =
-          let q : CarriedOn (sizeOf h) ≡ Dropped k = sym (rw g at (fate-good p (length xs) h)) ∙ sym (ap (λ (l : Look). fateOf l (length xs) p) e) ∙ f in
+          let q : CarriedOn (sizeOf h) ≡ Dropped k = sym (rw g at (sequel-good p (length xs) h)) ∙ sym (ap (λ (l : Look). sequelOf l (length xs) p) e) ∙ f in
           let z : _≡_ {A = ℕ} 0 1 = cc in
           absurd (omega arith)
       good h e false g =
-          let q : Dropped 2 ≡ Dropped k = sym (rw g at (fate-good p (length xs) h)) ∙ sym (ap (λ (l : Look). fateOf l (length xs) p) e) ∙ f in
+          let q : Dropped 2 ≡ Dropped k = sym (rw g at (sequel-good p (length xs) h)) ∙ sym (ap (λ (l : Look). sequelOf l (length xs) p) e) ∙ f in
           let z : 2 ≡ k = cc in
           reading-dropped xs zone p some e g ∙ ap (λ (i : ℕ). atPointer (bare i ∷ []) zone p) z
 
       by : (l : Look) → lookOf (xs ++ zone) ≡ l → reading xs zone p ≡ atPointer (bare k ∷ []) zone p
       by Short e = absurd (few-not e)
       by Bad e =
-          let q : Dropped 3 ≡ Dropped k = sym (fate-bad p (length xs)) ∙ sym (ap (λ (l : Look). fateOf l (length xs) p) e) ∙ f in
+          let q : Dropped 3 ≡ Dropped k = sym (sequel-bad p (length xs)) ∙ sym (ap (λ (l : Look). sequelOf l (length xs) p) e) ∙ f in
           let z : 3 ≡ k = cc in
           reading-bad xs zone p some e ∙ ap (λ (i : ℕ). atPointer (bare i ∷ []) zone p) z
       by (Good h) e = good h e (agrees (sizeOf h - length xs) p) refl
 
 -- a packet of so many octets goes on from the held ones into the zone
-pub record Onward (xs zone : List ℕ) (p size : ℕ) : Type 0 where
+pub record Onward (xs zone : List ℕ) (p : Pointer) (size : ℕ) : Type 0 where
   pub header : Packet
   pub looks : lookOf (xs ++ zone) ≡ Good header
   pub sized : size ≡ sizeOf header
   pub reads : reading xs zone p ≡ onward xs zone
 
-module _ (xs zone : List ℕ) (p : ℕ) (some : 0 < length xs) (long : 6 ≤ length zone) where
-  pub fate-onward : {size : ℕ} → fateOf (lookOf (xs ++ zone)) (length xs) p ≡ CarriedOn size → Onward xs zone p size
-  fate-onward {size} f = by (lookOf (xs ++ zone)) refl
+module _ (xs zone : List ℕ) (p : Pointer) (some : 0 < length xs) (long : 6 ≤ length zone) where
+  pub sequel-onward : {size : ℕ} → sequelOf (lookOf (xs ++ zone)) (length xs) p ≡ CarriedOn size → Onward xs zone p size
+  sequel-onward {size} f = by (lookOf (xs ++ zone)) refl
     where
       good : (h : Packet) → lookOf (xs ++ zone) ≡ Good h → (b : Bool) → agrees (sizeOf h - length xs) p ≡ b → Onward xs zone p size
       good h e true g =
-          let q : CarriedOn (sizeOf h) ≡ CarriedOn size = sym (rw g at (fate-good p (length xs) h)) ∙ sym (ap (λ (l : Look). fateOf l (length xs) p) e) ∙ f in
+          let q : CarriedOn (sizeOf h) ≡ CarriedOn size =
+          sym (rw g at (sequel-good p (length xs) h)) ∙ sym (ap (λ (l : Look). sequelOf l (length xs) p) e) ∙ f in
           record { header = h; looks = e; sized = cc; reads = reading-on xs zone p some e g }
       good h e false g =
-          let q : Dropped 2 ≡ CarriedOn size = sym (rw g at (fate-good p (length xs) h)) ∙ sym (ap (λ (l : Look). fateOf l (length xs) p) e) ∙ f in
+          let q : Dropped 2 ≡ CarriedOn size = sym (rw g at (sequel-good p (length xs) h)) ∙ sym (ap (λ (l : Look). sequelOf l (length xs) p) e) ∙ f in
           let z : _≡_ {A = ℕ} 0 1 = cc in
           absurd (omega arith)
 
       by : (l : Look) → lookOf (xs ++ zone) ≡ l → Onward xs zone p size
       by Short e = absurd (few-not xs zone p some long e)
       by Bad e =
-          let q : Dropped 3 ≡ CarriedOn size = sym (fate-bad p (length xs)) ∙ sym (ap (λ (l : Look). fateOf l (length xs) p) e) ∙ f in
+          let q : Dropped 3 ≡ CarriedOn size = sym (sequel-bad p (length xs)) ∙ sym (ap (λ (l : Look). sequelOf l (length xs) p) e) ∙ f in
           let z : _≡_ {A = ℕ} 0 1 = cc in
           absurd (omega arith)
       by (Good h) e = good h e (agrees (sizeOf h - length xs) p) refl
@@ -162,29 +164,39 @@ module _ {c : Channel} {s : Station} {a : Accepted} {zone desks store list : Lis
   lent-told n es l =
       record {
         sound = L .sound;
+        owners = L .owners;
         watched = L .watched;
         desk = L .desk;
         frame = L .frame;
+        start = L .start;
         desked = d ∙ L .desked;
         stored = L .stored;
         listed = omega (arith, L .listed, ap length l, length-put list n es);
       }
 
   -- and after a packet was judged
-  pub lent-judged : Sized s → (p : List ℕ) {r : Told} {stored : List ℕ} {n : ℕ} → TellsJudged (judged c s store p) n list r stored listed
-      → Lent c (r .station) a zone desked stored listed
+  pub lent-judged : Sized s → (p : List ℕ) {t : Station} {m : ℕ} {stored : List ℕ} {n : ℕ} → TellsJudged (judged c s store p) n list t m stored listed
+      → Lent c t a zone desked stored listed
   lent-judged z p {n} u =
       let k = judged-stays c s store p in
       rw (u .station, u .wrote)
       record {
         sound = judged-sound c s store p z (L .sound) (L .watched);
+        owners = k .owners ∙ L .owners;
         watched = stays-watched k (L .watched);
         desk = rw (k .channels) (L .desk);
         frame = L .frame;
+        start = L .start;
         desked = d ∙ L .desked ∙ ap (λ (i : ℕ). 8198 * i) (sym (k .channels));
         stored = judged-store c s store p ∙ L .stored ∙ ap (λ (i : ℕ). 8190 * i) (sym (k .blocks));
         listed = omega (arith, L .listed, ap length (u .listed), length-put list (3 * n) (flat (judged c s store p .events)));
       }
+
+-- a walk over one whole packet judges that packet
+one-judged : (c : Channel) (s : Station) (p store : List ℕ) {n m : ℕ} {list₀ list stored : List ℕ} {t : Station} → Whole p
+    → TellsJudged (judgedAll c s store (split (drop 0 p) .packets)) n list₀ t m stored list → TellsJudged (judged c s store p) n list₀ t m stored list
+one-judged c s p store w u =
+    rw (← all-one c s store p) (rw (ap (λ (sp : Split). sp .packets) (split-one w)) at u)
 
 -- octets are held, and as many of the zone's as fit are to be put behind them
 module _ {c : Channel} {s : Station} {a : Accepted} {held : ℕ} {zone desks store list : List ℕ} (C : Carrying c s a held zone desks store list) where
@@ -255,15 +267,15 @@ module _ {c : Channel} {s : Station} {a : Accepted} {held : ℕ} {zone desks sto
   pub lacks : (h : Packet) → lookOf (deskTo a (8198 * a .desk + held + J .more) (J .written)) ≡ Good h → held ≤ sizeOf h
   lacks h e = omega (arith, lacks-some h (sym look-desk ∙ e))
 
-  module _ {f : Fate} (e : f ≡ fateOf (lookOf (deskTo a (8198 * a .desk + held + J .more) (J .written))) held (a .pointer)) where
-    fate-here : f ≡ fateOf (lookOf (heldAt s desks (a .desk) ++ zone)) (length (heldAt s desks (a .desk))) (a .pointer)
-    fate-here = e ∙ ap₂ (λ (l : Look) (n : ℕ). fateOf l n (a .pointer)) look-desk (sym long)
+  module _ {f : Sequel} (e : f ≡ sequelOf (lookOf (deskTo a (8198 * a .desk + held + J .more) (J .written))) held (a .pointer)) where
+    sequel-here : f ≡ sequelOf (lookOf (heldAt s desks (a .desk) ++ zone)) (length (heldAt s desks (a .desk))) (a .pointer)
+    sequel-here = e ∙ ap₂ (λ (l : Look) (n : ℕ). sequelOf l n (a .pointer)) look-desk (sym long)
 
     pub drops : {k : ℕ} → f ≡ Dropped k → reading (heldAt s desks (a .desk)) zone (a .pointer) ≡ atPointer (bare k ∷ []) zone (a .pointer)
-    drops g = fate-dropped (heldAt s desks (a .desk)) zone (a .pointer) some (omega (arith, L .frame)) (sym fate-here ∙ g)
+    drops g = sequel-dropped (heldAt s desks (a .desk)) zone (a .pointer) some (omega (arith, L .frame)) (sym sequel-here ∙ g)
 
     pub goes-on : {size : ℕ} → f ≡ CarriedOn size → Onward (heldAt s desks (a .desk)) zone (a .pointer) size
-    goes-on g = fate-onward (heldAt s desks (a .desk)) zone (a .pointer) some (omega (arith, L .frame)) (sym fate-here ∙ g)
+    goes-on g = sequel-onward (heldAt s desks (a .desk)) zone (a .pointer) some (omega (arith, L .frame)) (sym sequel-here ∙ g)
 
   module _ {size : ℕ} (O : Onward (heldAt s desks (a .desk)) zone (a .pointer) size) where
     pub lacking : held < size
@@ -286,19 +298,19 @@ module _ {c : Channel} {s : Station} {a : Accepted} {held : ℕ} {zone desks sto
         (carried-packet (heldAt s desks (a .desk)) zone (O .looks) (size - held) lacked (omega (arith, L .frame)))
 
     -- "What is left unfinished at the zone's end is held."
-    pub tells-longer : 884 < size - held → {d : Done} → d ≡ leaves s a (held + 884) 0 → Tells (carried c s desks store zone a) 0 list d (J .written) store list
+    pub tells-longer : 884 < size - held
+        → TellsWalked (walkedOn c s desks store zone a) 0 list (withDesk s (a .desk) (deskAfter a (held + 884))) 0 (J .written) store list
     unfolding flat flatMap
-    tells-longer l t =
+    tells-longer l =
         let xs = heldAt s desks (a .desk) in
         let k : held + 884 ≡ length (xs ++ zone) = omega (arith, length-append xs zone, long, L .frame) in
         let n : J .more ≡ 884 = omega (arith, J .most, size-most, lacking) in
         let all : take (J .more) zone ≡ zone = take-all (J .more) zone (omega (arith, L .frame)) in
-        rw t
-        (tells-as
+        tells-as
         (ap (λ (v : Reading). walkedFrom c s desks store a (v .events) (v .octets)) (O .reads)
         ∙ from-longer c s desks store a [] xs zone (O .looks) (size - held) lacked (omega (arith, L .frame)))
         (record {
-          station = ap (λ (i : ℕ). leaves s a i 0 .station) k;
+          station = ap (λ (i : ℕ). withDesk s (a .desk) (deskAfter a i)) k;
           events = refl;
           desked =
               J .wrote ∙ ap (put desks (8198 * a .desk + held)) all
@@ -307,47 +319,65 @@ module _ {c : Channel} {s : Station} {a : Accepted} {held : ℕ} {zone desks sto
               ∙ ap (λ (i : ℕ). withHeld desks (a .desk) (part (8198 * a .desk) i desks ++ zone)) (J .carrying .here);
           stored = refl;
           listed = sym (put-nil list (3 * 0));
-        }))
+        })
+
+    -- what the walk over the packet on the desk asks
+    pub desk-going : size - held ≤ 884 → Going c s (deskTo a (8198 * a .desk + size) (J .written)) 0 store list 0
+    desk-going l =
+        let whole = whole-desk l in
+        record {
+          sound = L .sound;
+          owners = L .owners;
+          watched = L .watched;
+          within = omega arith;
+          short = whole-largest whole;
+          stored = L .stored;
+          room = by-packet whole (omega (arith, L .listed));
+        }
 
     -- the packet was judged: what the rest of the zone is walked with, and what comes of all
-    module _ {r : Told} {stored listed : List ℕ}
-        (u : TellsJudged (judged c s store (deskTo a (8198 * a .desk + size) (J .written))) 0 list r stored listed) where
-      pub rest-lent : Sized s → Lent c (r .station) a zone (J .written) stored listed
-      rest-lent z = lent-judged L written-length z (deskTo a (8198 * a .desk + size) (J .written)) u
+    module _ (l : size - held ≤ 884) {t : Station} {m at : ℕ} {bad : Bool} {stored listed : List ℕ}
+        (S : Stops c s (deskTo a (8198 * a .desk + size) (J .written)) 0 store 0 list t m at bad stored listed) where
+      on : TellsJudged (judged c s store (deskTo a (8198 * a .desk + size) (J .written))) 0 list t m stored listed
+      on = one-judged c s (deskTo a (8198 * a .desk + size) (J .written)) store (whole-desk l) (S .told)
 
-      pub rest-few : 3 * r .events ≤ size - held + 8
-      rest-few = omega (arith, lacking, u .events, three c s store (deskTo a (8198 * a .desk + size) (J .written)))
+      pub rest-lent : Sized s → Lent c t a zone (J .written) stored listed
+      rest-lent z = lent-judged L written-length z (deskTo a (8198 * a .desk + size) (J .written)) on
 
-      pub tells-onward : size - held ≤ 884 → {d : Done} {desks₁ store₁ list₁ : List ℕ}
-          → Tells (walkedFrom c (r .station) (J .written) stored a [] (drop (size - held) zone)) (r .events) listed d desks₁ store₁ list₁
-          → Tells (carried c s desks store zone a) 0 list d desks₁ store₁ list₁
-      tells-onward l t =
+      pub rest-few : 3 * m ≤ size - held + 8
+      rest-few = omega (arith, lacking, on .events, three c s store (deskTo a (8198 * a .desk + size) (J .written)))
+
+      pub tells-onward : {v : Station} {i : ℕ} {desks₁ store₁ list₁ : List ℕ}
+          → TellsWalked (walkedFrom c t (J .written) stored a [] (drop (size - held) zone)) m listed v i desks₁ store₁ list₁
+          → TellsWalked (walkedOn c s desks store zone a) 0 list v i desks₁ store₁ list₁
+      tells-onward u =
           let xs = heldAt s desks (a .desk) in
           let j = judged c s store (deskTo a (8198 * a .desk + size) (J .written)) in
           let rest = drop (size - held) zone in
           tells-as
           (ap (λ (v : Reading). walkedFrom c s desks store a (v .events) (v .octets)) (O .reads)
           ∙ from-carried c s desks store a [] xs zone (O .looks) (size - held) lacked (omega (arith, L .frame))
-          ∙ ap (λ (q : List ℕ). walkedFrom c (judged c s store q .station) desks (judged c s store q .store) a (judged c s store q .events) rest) (sym (packet-desk l))
+          ∙ ap (λ (q : List ℕ). walkedFrom c (judged c s store q .station) desks (judged c s store q .store) a (judged c s store q .events) rest)
+          (sym (packet-desk l))
           ∙ walked-alike c (j .station) (j .store) a (J .written) desks alike (j .events) rest
           ∙ from-led c (j .station) (J .written) (j .store) a (j .events) rest)
-          (tells-led (j .events) (rw (u .station, u .events, u .wrote, u .listed) at t))
+          (tells-led (j .events) (rw (on .station, on .events, on .wrote, on .listed) at u))
 
 -- a frame that is not refused, by its cases
 module _ (c : Channel) (s : Station) (desks store zone : List ℕ) (a : Accepted) {g : Bool} (e : g ≡ gap (deskAt s (a .desk)) (a .counter)) where
   -- "event 1, and the held octets are dropped"
-  pub tells-gap : g ≡ true → length zone ≡ 884 → {from : ℕ} → from ≡ startAt (pointerMeaning (a .pointer)) → {n : ℕ} {list₀ list : List ℕ}
+  pub tells-gap : g ≡ true → length zone ≡ 884 → {from : ℕ} → from ≡ startAt (a .pointer) → {n : ℕ} {list₀ list : List ℕ}
       → n ≡ 0 + 1
       → list ≡ put list₀ (3 * 0) (1 ∷ 0 ∷ 0 ∷ [])
-      → {r : Done} {desks₁ store₁ list₁ : List ℕ} → Tells (walkedFrom c s desks store a [] (drop from zone)) n list r desks₁ store₁ list₁
-      → Tells (walked c s desks store zone a) 0 list₀ r desks₁ store₁ list₁
+      → {u : Station} {i : ℕ} {desks₁ store₁ list₁ : List ℕ} → TellsWalked (walkedFrom c s desks store a [] (drop from zone)) n list u i desks₁ store₁ list₁
+      → TellsWalked (walked c s desks store zone a) 0 list₀ u i desks₁ store₁ list₁
   tells-gap f size b n l t =
       tells-as (walked-from c s desks store a zone)
       (tells-dropped c s store a desks desks (λ left k. refl) 1 zone (reading-gap s desks zone a (sym e ∙ f)) size b n l t)
 
-  module _ (f : g ≡ false) {n : ℕ} {list₀ : List ℕ} {r : Done} {desks₁ store₁ list₁ : List ℕ} where
-    pub tells-seamless : Tells (carried c s desks store zone a) n list₀ r desks₁ store₁ list₁
-        → Tells (walked c s desks store zone a) n list₀ r desks₁ store₁ list₁
+  module _ (f : g ≡ false) {n : ℕ} {list₀ : List ℕ} {u : Station} {i : ℕ} {desks₁ store₁ list₁ : List ℕ} where
+    pub tells-seamless : TellsWalked (walkedOn c s desks store zone a) n list₀ u i desks₁ store₁ list₁
+        → TellsWalked (walked c s desks store zone a) n list₀ u i desks₁ store₁ list₁
     tells-seamless t =
         tells-as
         (walked-from c s desks store a zone
@@ -355,14 +385,14 @@ module _ (c : Channel) (s : Station) (desks store zone : List ℕ) (a : Accepted
         t
 
     -- "with nothing held, reading begins at the pointer"
-    pub tells-fresh : deskAt s (a .desk) .held ≡ 0 → length zone ≡ 884 → {from : ℕ} → from ≡ startAt (pointerMeaning (a .pointer))
-        → Tells (walkedFrom c s desks store a [] (drop from zone)) n list₀ r desks₁ store₁ list₁
-        → Tells (walked c s desks store zone a) n list₀ r desks₁ store₁ list₁
+    pub tells-fresh : deskAt s (a .desk) .held ≡ 0 → length zone ≡ 884 → {from : ℕ} → from ≡ startAt (a .pointer)
+        → TellsWalked (walkedFrom c s desks store a [] (drop from zone)) n list₀ u i desks₁ store₁ list₁
+        → TellsWalked (walked c s desks store zone a) n list₀ u i desks₁ store₁ list₁
     tells-fresh none size b t =
         let nothing : heldAt s desks (a .desk) ≡ [] = ap (λ (i : ℕ). part (8198 * a .desk) i desks) none in
         let reads : reading (heldAt s desks (a .desk)) zone (a .pointer) ≡ atPointer [] zone (a .pointer) =
         ap (λ (xs : List ℕ). reading xs zone (a .pointer)) nothing ∙ reading-none zone (a .pointer) in
-        let start = from-start (pointerMeaning (a .pointer)) zone size ∙ ap (λ (i : ℕ). drop i zone) (sym b) in
+        let start = from-start (a .pointer) zone size ∙ ap (λ (i : ℕ). drop i zone) (sym b) in
         tells-seamless
         (tells-as
         (ap (λ (v : Reading). walkedFrom c s desks store a (v .events) (v .octets)) reads ∙ ap (walkedFrom c s desks store a []) start)

@@ -5,18 +5,20 @@ use mathlib.Core.Logic.{_⊎_, inl, inr, ⊎-elim}
 use mathlib.Core.List.{List, [], _∷_, _++_}
 use Prim.Native.Nat.{ℕ, _+_, _-_, _%_, _≤_, _<_}
 use native.Mathlib.Omega.{arith}
-use borrow.Author.Tests.{ltb-true, ltb-false}
-use lib.Dec.{ltb}
 use lib.ListN.{length, drop, length-drop, drop-of-length-le}
 use Rattle.octets.specs.Choice.{Decides}
-use Rattle.octets.proofs.Lists.{if-cases}
-use Rattle.octets.proofs.Decide.{decides-same, decides-by, decides-self, decides-eqb, decides-then, decides-not}
+use Rattle.octets.specs.Choice.Decides.{fails}
+use Rattle.octets.proofs.Decide.{decides-same, decides-by, decides-self, decides-eqb, decides-leb, decides-then, decides-not}
 use Rattle.frame.specs.declared.Accepted.{Accepted}
+use Rattle.frame.specs.declared.Channel.{Channel}
 use Rattle.frame.specs.declared.Counter.{Counter}
+use Rattle.frame.specs.declared.Examined.the-variants as answer
 use Rattle.frame.specs.declared.Pointer.{Pointer}
 use Rattle.frame.specs.declared.Pointer.the-variants.{Offset, NoStart, Refused}
-use Rattle.frame.specs.Header.{pointerMeaning}
-use Rattle.frame.proofs.Pointers.{below-offset, no-start}
+use Rattle.frame.specs.Header.{derandomised, frameOf, pointerMeaning}
+use Rattle.frame.specs.Refusals.{examined}
+use Rattle.frame.proofs.Pointers.{below-offset, no-start, Means, means}
+use Rattle.frame.proofs.Answers.{good-header}
 use Rattle.frame.proofs.Counting.{follows-next, next-follows}
 use Rattle.packet.specs.declared.Packet.{Packet}
 use Rattle.packet.specs.declared.Look.{Look}
@@ -25,7 +27,7 @@ use Rattle.packet.specs.Header.{lookOf, sizeOf}
 use Rattle.state.specs.declared.Desk.{Desk}
 use Rattle.state.specs.declared.Station.{Station}
 use Rattle.state.specs.Slots.{deskAt}
-use Rattle.judge.specs.Event.{Event, bare}
+use Rattle.events.specs.Event.{Event, bare}
 use Rattle.zone.specs.Zone.{Reading, fromPointer, agrees, carriedBy, reading}
 use Rattle.zone.specs.Walk.{gap, heldAt, readingOf}
 use Rattle.zone.specs.Contract.{startAt}
@@ -50,40 +52,59 @@ from-place p zone l (inl h) = ap (λ (q : Pointer). fromPointer q zone) (below-o
 from-place p zone l (inr e) =
     ap (λ (q : Pointer). fromPointer q zone) (no-start p e) ∙ sym (drop-of-length-le zone {i = p} (omega arith))
 
+-- what a pointer means is a place of the zone, or its end
+pub meaning-within : (p : ℕ) → startAt (pointerMeaning p) ≤ 884
+unfolding startAt
+meaning-within p = by (pointerMeaning p) (means p)
+  where
+    by : (m : Pointer) → Means p m → startAt m ≤ 884
+    by (Offset q) (same, low) = omega arith
+    by NoStart e = omega arith
+    by Refused e = omega arith
+
+-- an accepted frame is read from within its zone
+pub start-within : (craft : ℕ) (watched : List Channel) (f : List ℕ) (a : Accepted) → examined craft watched f ≡ answer.Good a
+    → startAt (a .pointer) ≤ 884
+start-within craft watched f a e = rw (good-header craft watched f a e .pointer) (meaning-within (frameOf (derandomised f) .pointer))
+
 -- "the pointer must be r if r is below 884, and 2047 otherwise", in words
 abbrev pub Agrees : ℕ → ℕ → Type 0
 Agrees r p = ((r < 884) × (p ≡ r)) ⊎ ((884 ≤ r) × (p ≡ 2047))
 
-pub agrees-exactly : (r p : ℕ) → Decides (Agrees r p) (agrees r p)
+pub agrees-exactly : (r p : ℕ) → Decides (Agrees r p) (agrees r (pointerMeaning p))
 unfolding agrees
-agrees-exactly r p =
-    if-cases (λ (b : Bool). Decides (Agrees r p) b) (ltb r 884)
-    (λ e.
-    let l = ltb-true r 884 e in
-    decides-same (λ q. inl (l, q)) (⊎-elim (λ a. a .1) (λ a. omega (arith, a .0))) (decides-eqb p r))
-    (λ e.
-    let l = ltb-false r 884 e in
-    decides-same (λ q. inr (l, q)) (⊎-elim (λ a. omega (arith, a .0)) (λ a. a .1)) (decides-eqb p 2047))
+agrees-exactly r p = by (pointerMeaning p) (means p)
+  where
+    by : (m : Pointer) → Means p m → Decides (Agrees r p) (agrees r m)
+    by (Offset q) (same, low) =
+        decides-same (λ e. inl (omega arith, omega arith)) (⊎-elim (λ a. omega (arith, a .1)) (λ a. omega (arith, a .1))) (decides-eqb q r)
+    by NoStart e = decides-same (λ l. inr (l, e)) (⊎-elim (λ a. omega (arith, a .0, a .1)) (λ a. a .0)) (decides-leb 884 r)
+    by Refused (from, other) = fails (⊎-elim (λ a. omega (arith, a .0, a .1)) (λ a. other (a .1)))
 
 -- reading at the pointer, after these events
-abbrev pub atPointer : List Event → List ℕ → ℕ → Reading
-atPointer es zone p = record { events = es; octets = fromPointer (pointerMeaning p) zone }
+abbrev pub atPointer : List Event → List ℕ → Pointer → Reading
+atPointer es zone p = record { events = es; octets = fromPointer p zone }
 
 -- the held octets and the zone, read as one stretch
 abbrev pub onward : List ℕ → List ℕ → Reading
 onward held zone = record { events = []; octets = held ++ zone }
 
-pub reading-none : (zone : List ℕ) (p : ℕ) → reading [] zone p ≡ atPointer [] zone p
+pub reading-none : (zone : List ℕ) (p : Pointer) → reading [] zone p ≡ atPointer [] zone p
 unfolding reading
 reading-none zone p = refl
 
-reading-held : (held zone : List ℕ) (p : ℕ) → 0 < length held → {l : Look} → lookOf (held ++ zone) ≡ l
+-- pointer 0 is the zone's start
+pub reading-first : (zone : List ℕ) → reading [] zone (pointerMeaning 0) ≡ onward [] zone
+unfolding fromPointer
+reading-first zone = reading-none zone (pointerMeaning 0) ∙ ap (atPointer [] zone) (below-offset 0 (omega arith))
+
+reading-held : (held zone : List ℕ) (p : Pointer) → 0 < length held → {l : Look} → lookOf (held ++ zone) ≡ l
     → reading held zone p ≡ carriedBy l held zone p
 unfolding reading
 reading-held [] zone p some e = absurd (omega arith)
 reading-held (x ∷ held) zone p some e = ap (λ (l : Look). carriedBy l (x ∷ held) zone p) e
 
-module _ (held zone : List ℕ) (p : ℕ) (some : 0 < length held) where
+module _ (held zone : List ℕ) (p : Pointer) (some : 0 < length held) where
   pub reading-short : lookOf (held ++ zone) ≡ Short → reading held zone p ≡ onward held zone
   unfolding carriedBy
   reading-short e = reading-held held zone p some e
@@ -102,7 +123,7 @@ module _ (held zone : List ℕ) (p : ℕ) (some : 0 < length held) where
     reading-dropped f = reading-held held zone p some e ∙ rw f
 
 -- every case, with what is known in it
-pub data Reads (held zone : List ℕ) (p : ℕ) : Reading → Type 0 where
+pub data Reads (held zone : List ℕ) (p : Pointer) : Reading → Type 0 where
   afresh : held ≡ [] → Reads held zone p (atPointer [] zone p)
   too-few : lookOf (held ++ zone) ≡ Short → Reads held zone p (onward held zone)
   bad-header : lookOf (held ++ zone) ≡ Bad → Reads held zone p (atPointer (bare 3 ∷ []) zone p)
@@ -110,7 +131,7 @@ pub data Reads (held zone : List ℕ) (p : ℕ) : Reading → Type 0 where
   points-off : {h : Packet} → lookOf (held ++ zone) ≡ Good h → agrees (sizeOf h - length held) p ≡ false
       → Reads held zone p (atPointer (bare 2 ∷ []) zone p)
 
-reads-held : (held zone : List ℕ) (p : ℕ) → 0 < length held → (l : Look) → lookOf (held ++ zone) ≡ l → Reads held zone p (reading held zone p)
+reads-held : (held zone : List ℕ) (p : Pointer) → 0 < length held → (l : Look) → lookOf (held ++ zone) ≡ l → Reads held zone p (reading held zone p)
 reads-held held zone p some Short e = rw (reading-short held zone p some e) (too-few e)
 reads-held held zone p some Bad e = rw (reading-bad held zone p some e) (bad-header e)
 reads-held held zone p some (Good h) e = by (agrees (sizeOf h - length held) p) refl
@@ -119,7 +140,7 @@ reads-held held zone p some (Good h) e = by (agrees (sizeOf h - length held) p) 
     by true f = rw (reading-on held zone p some e f) (goes-on e f)
     by false f = rw (reading-dropped held zone p some e f) (points-off e f)
 
-pub reads-as : (held zone : List ℕ) (p : ℕ) → Reads held zone p (reading held zone p)
+pub reads-as : (held zone : List ℕ) (p : Pointer) → Reads held zone p (reading held zone p)
 reads-as [] zone p = rw (reading-none zone p) (afresh refl)
 reads-as (x ∷ held) zone p = reads-held (x ∷ held) zone p (omega arith) (lookOf (x ∷ held ++ zone)) refl
 
@@ -137,7 +158,8 @@ gap-exactly d c =
 module _ (s : Station) (desks zone : List ℕ) (a : Accepted) where
   pub reading-gap : gap (deskAt s (a .desk)) (a .counter) ≡ true → readingOf s desks zone a ≡ atPointer (bare 1 ∷ []) zone (a .pointer)
   unfolding readingOf
-  reading-gap e = rw (e, reading-none zone (a .pointer))
+  reading-gap e =
+      rw e (ap (λ (r : Reading). record { events = bare 1 ∷ r .events; octets = r .octets }) (reading-none zone (a .pointer)))
 
   pub reading-seamless : gap (deskAt s (a .desk)) (a .counter) ≡ false
       → readingOf s desks zone a ≡ reading (heldAt s desks (a .desk)) zone (a .pointer)

@@ -2,7 +2,7 @@
 -- left or dropped, are the octets; and the packet that is carried on from one zone into the next. Assumes nothing.
 use mathlib.Core.Path.{_≡_, refl, sym, ap, _∙_}
 use mathlib.Core.Bool.{Bool, true, false}
-use mathlib.Core.List.{List, [], _∷_, _++_, append-assoc, flatten}
+use mathlib.Core.List.{List, [], _∷_, _++_, append-assoc, append-nil, flatten}
 use Prim.Native.Nat.{ℕ, zero, suc, _+_, _-_, _≤_, _<_}
 use native.Mathlib.Omega.{arith}
 use borrow.Author.Tests.{lt-ltb, le-ltb, ltb-true, ltb-false}
@@ -126,6 +126,12 @@ packet-whole xs {h} e l =
     let is : h ≡ packetOf p = look-good p h same .is in
     record { good = same ∙ ap Good is; all = n ∙ ap sizeOf is }
 
+pub packet-header : (xs : List ℕ) {h : Packet} → lookOf xs ≡ Good h → sizeOf h ≤ length xs → h ≡ packetOf (take (sizeOf h) xs)
+packet-header xs {h} e l =
+    let g = look-good xs h e in
+    let n : length (take (sizeOf h) xs) ≡ sizeOf h = length-take-le (sizeOf h) xs l in
+    look-good (take (sizeOf h) xs) h (look-same (take (sizeOf h) xs) xs (omega (arith, g .smallest)) (g .six) (take-take 6 (sizeOf h) xs (omega arith)) ∙ e) .is
+
 splits-wholes : {xs : List ℕ} {sp : Split} → Splits xs sp → Wholes (sp .packets)
 splits-wholes (few e) = tt
 splits-wholes (part e l) = tt
@@ -179,6 +185,10 @@ cut-first p ys w =
     let e : lookOf (p ++ ys) ≡ Good (packetOf p) = look-append p ys (g .six) ∙ w .good in
     split-whole (p ++ ys) e (omega (arith, w .all, length-append p ys))
     ∙ rw (← w .all, take-append-seam p ys, drop-append-seam p ys)
+
+-- one whole packet
+pub split-one : {p : List ℕ} → Whole p → split p ≡ behind p (unfinished [])
+split-one {p} w = ap split (sym (append-nil p)) ∙ cut-first p [] w ∙ ap (behind p) (split-unfinished (header (omega arith)))
 
 -- and so are all: there is one way to cut octets into whole packets and what gives none
 pub cut-all : (ps : List (List ℕ)) (rest : List ℕ) → Wholes ps

@@ -1,7 +1,7 @@
 -- The walk over a zone, turn by turn: what holds at each place of it, from where it begins to where it stops. Assumes nothing.
 use mathlib.Core.Path.{_≡_, refl, sym, ap, ap₂, _∙_}
 use mathlib.Core.Bool.{Bool, true, false, true≢false}
-use mathlib.Core.List.{List, [], _++_, append-nil, flatMap}
+use mathlib.Core.List.{List, [], _∷_, _++_, append-nil, flatMap}
 use Prim.Native.Nat.{ℕ, _+_, _-_, _*_, _≤_, _<_}
 use native.Mathlib.Omega.{arith}
 use borrow.Author.Tests.{lt-ltb, le-ltb, ltb-true, ltb-false}
@@ -15,23 +15,29 @@ use Rattle.frame.specs.declared.Channel.{Channel}
 use Rattle.packet.specs.declared.Packet.{Packet}
 use Rattle.packet.specs.declared.Look.{Look}
 use Rattle.packet.specs.declared.Look.the-variants.{Short, Bad, Good}
-use Rattle.packet.specs.Header.{lookOf, sizeOf}
+use Rattle.packet.specs.Header.{packetOf, lookOf, sizeOf}
 use Rattle.packet.proofs.Looks.{look-good}
 use Rattle.state.specs.declared.Station.{Station}
 use Rattle.state.specs.Sound.{Sized}
-use Rattle.judge.specs.declared.Told.{Told}
-use Rattle.judge.specs.Event.{Event, flat}
+use Rattle.events.specs.Event.{Event, of, flat}
+use Rattle.events.proofs.Flat.{flat-behind}
+use Rattle.judge.specs.declared.Ruling.{Ruling}
+use Rattle.judge.specs.declared.Ruling.the-variants.{Skips, Says}
 use Rattle.judge.specs.Judge.{gives, after, judged}
+use Rattle.judge.specs.Ruling.{rulingOf}
 use Rattle.judge.specs.Contract.{Ready, Whole, Tells as TellsJudged}
 use Rattle.judge.proofs.Keeps.{stays-watched, judged-stays, judged-sized, judged-store, judged-sound}
 use Rattle.judge.proofs.Few.{few}
-use Rattle.judge.proofs.Flat.{flat-behind, tells-gives}
+use Rattle.judge.proofs.Flat.{tells-gives, tells-none, tells-one}
+use Rattle.judge.proofs.Rulings.{ruled-skips, ruled-says}
+use Rattle.judge.proofs.Telling.{tells-as}
 use Rattle.zone.specs.declared.Next.{Next}
 use Rattle.zone.specs.declared.Next.the-variants.{Take, End}
 use Rattle.zone.specs.Zone.{Split, behind, split}
 use Rattle.zone.specs.Walk.{judgedAll}
-use Rattle.zone.specs.Contract.{Going, nextBy, nextOf, Stops}
-use Rattle.zone.proofs.Split.{split-short, split-bad, split-part, split-whole, packet-whole}
+use Rattle.zone.specs.Contract.{Room, Going, nextBy, nextOf, Stops}
+use Rattle.zone.specs.Contract.Room.{by-octets, by-packet, by-none}
+use Rattle.zone.proofs.Split.{split-short, split-bad, split-part, split-whole, packet-whole, packet-header}
 use Rattle.zone.proofs.Walks.{after-after, all-first}
 
 -- what comes next, in every case
@@ -39,7 +45,7 @@ pub data Nexts (xs : List ℕ) : Next → Type 0 where
   short : lookOf xs ≡ Short → Nexts xs (End false)
   spoilt : lookOf xs ≡ Bad → Nexts xs (End true)
   part : {h : Packet} → lookOf xs ≡ Good h → length xs < sizeOf h → Nexts xs (End false)
-  whole : {h : Packet} → lookOf xs ≡ Good h → sizeOf h ≤ length xs → Nexts xs (Take (sizeOf h))
+  whole : {h : Packet} → lookOf xs ≡ Good h → sizeOf h ≤ length xs → Nexts xs (Take h)
 
 module _ (xs : List ℕ) where
   pub next-short : lookOf xs ≡ Short → nextOf xs ≡ End false
@@ -54,7 +60,7 @@ module _ (xs : List ℕ) where
   unfolding nextBy
   next-part {h} e l = rw (e, lt-ltb (length xs) (sizeOf h) l)
 
-  pub next-whole : {h : Packet} → lookOf xs ≡ Good h → sizeOf h ≤ length xs → nextOf xs ≡ Take (sizeOf h)
+  pub next-whole : {h : Packet} → lookOf xs ≡ Good h → sizeOf h ≤ length xs → nextOf xs ≡ Take h
   unfolding nextBy
   next-whole {h} e l = rw (e, le-ltb (length xs) (sizeOf h) l)
 
@@ -74,20 +80,19 @@ module _ (xs : List ℕ) where
       by Bad e = rw (next-bad e) (spoilt e)
       by (Good h) e = good h e (ltb (length xs) (sizeOf h)) refl
 
--- the packet that comes next
-pub record Taken (xs : List ℕ) (m : ℕ) : Type 0 where
-  pub header : Packet
-  pub looks : lookOf xs ≡ Good header
-  pub size : m ≡ sizeOf header
+-- the packet that comes next: its header, and its size as the code has it
+pub record Taken (xs : List ℕ) (h : Packet) (m : ℕ) : Type 0 where
+  pub looks : lookOf xs ≡ Good h
+  pub size : m ≡ sizeOf h
   pub fits : m ≤ length xs
 
-nexts-taken : {xs : List ℕ} {x : Next} → Nexts xs x → (m : ℕ) → x ≡ Take m → Taken xs m
-nexts-taken (short e) m q = let z : _≡_ {A = ℕ} 0 1 = cc in absurd (omega arith)
-nexts-taken (spoilt e) m q = let z : _≡_ {A = ℕ} 0 1 = cc in absurd (omega arith)
-nexts-taken (part e l) m q = let z : _≡_ {A = ℕ} 0 1 = cc in absurd (omega arith)
-nexts-taken (whole {h} e l) m q =
-    let k : sizeOf h ≡ m = cc in
-    record { header = h; looks = e; size = sym k; fits = omega arith }
+nexts-taken : {xs : List ℕ} {x : Next} → Nexts xs x → (h : Packet) (m : ℕ) → x ≡ Take h → m ≡ sizeOf h → Taken xs h m
+nexts-taken (short e) h m q n = let z : _≡_ {A = ℕ} 0 1 = cc in absurd (omega arith)
+nexts-taken (spoilt e) h m q n = let z : _≡_ {A = ℕ} 0 1 = cc in absurd (omega arith)
+nexts-taken (part e l) h m q n = let z : _≡_ {A = ℕ} 0 1 = cc in absurd (omega arith)
+nexts-taken (whole {h = g} e l) h m q n =
+    let k : g ≡ h = cc in
+    record { looks = e ∙ ap Good k; size = n; fits = omega (arith, n, ap sizeOf k) }
 
 -- what the code looks at is the zone from the place on
 pub seen : (zone : List ℕ) (at : ℕ) {l k : Look} → l ≡ lookOf (take (length zone - at) (drop at zone)) → l ≡ k → lookOf (drop at zone) ≡ k
@@ -129,20 +134,20 @@ module _ {c : Channel} {s : Station} {zone : List ℕ} {from : ℕ} {store₀ : 
 
   -- no whole packet is left
   stops : (b : Bool) → split (drop at zone) .packets ≡ [] → split (drop at zone) .bad ≡ b → (b ≡ false → drop at zone ≡ split (drop at zone) .left)
-      → Stops c s zone from store₀ n list₀ (record { station = t; events = events; at = at; bad = b }) store list
+      → Stops c s zone from store₀ n list₀ t events at b store list
   unfolding judgedAll
   stops b e f g =
       let all : judgedAll c s store₀ (split (drop from zone) .packets) ≡ gives t store (W .new) =
       W .judges ∙ ap (λ (ps : List (List ℕ)). after (W .new) (judgedAll c t store ps)) e ∙ ap (gives t store) (append-nil (W .new)) in
       record {
         told = rw all (tells-gives t store (W .new) (W .counted) (W .listed));
-        bad = sym f ∙ W .bad;
-        within = omega (arith, W .going .within, W .going .frame);
+        spoilt = sym f ∙ W .bad;
+        within = W .going .within;
         left = λ h. g h ∙ W .left;
       }
 
   stopped : {x : Next} → Nexts (drop at zone) x → (b : Bool) → x ≡ End b
-      → Stops c s zone from store₀ n list₀ (record { station = t; events = events; at = at; bad = b }) store list
+      → Stops c s zone from store₀ n list₀ t events at b store list
   stopped (short e) b q =
       let k = split-short (drop at zone) e in
       let z : false ≡ b = cc in
@@ -158,38 +163,85 @@ module _ {c : Channel} {s : Station} {zone : List ℕ} {from : ℕ} {store₀ : 
   stopped (whole e l) b q = let z : _≡_ {A = ℕ} 0 1 = cc in absurd (omega arith)
 
   pub stops-here : {b : Bool} {x : Next} → x ≡ nextOf (drop at zone) → x ≡ End b
-      → Stops c s zone from store₀ n list₀ (record { station = t; events = events; at = at; bad = b }) store list
+      → Stops c s zone from store₀ n list₀ t events at b store list
   stops-here {b} e f = stopped (nexts-as (drop at zone)) b (sym e ∙ f)
 
-  pub taken : {m : ℕ} {x : Next} → x ≡ nextOf (drop at zone) → x ≡ Take m → Taken (drop at zone) m
-  taken {m} e f = nexts-taken (nexts-as (drop at zone)) m (sym e ∙ f)
+  pub taken : {h : Packet} {m : ℕ} {x : Next} → x ≡ nextOf (drop at zone) → x ≡ Take h → m ≡ sizeOf h → Taken (drop at zone) h m
+  taken {h} {m} e f = nexts-taken (nexts-as (drop at zone)) h m (sym e ∙ f)
 
   -- the packet of m octets at the place
-  module _ {m : ℕ} (T : Taken (drop at zone) m) where
-    cut : take (at + m - at) (drop at zone) ≡ take (sizeOf (T .header)) (drop at zone)
+  module _ {h : Packet} {m : ℕ} (T : Taken (drop at zone) h m) where
+    cut : take (at + m - at) (drop at zone) ≡ take (sizeOf h) (drop at zone)
     cut =
-        let k : at + m - at ≡ sizeOf (T .header) = omega (arith, T .size) in
+        let k : at + m - at ≡ sizeOf h = omega (arith, T .size) in
         ap (λ (i : ℕ). take i (drop at zone)) k
 
-    fits : sizeOf (T .header) ≤ length (drop at zone)
+    fits : sizeOf h ≤ length (drop at zone)
     fits = omega (arith, T .size, T .fits)
 
-    pub room : at + m ≤ 884
-    room = omega (arith, T .fits, length-drop at zone, W .going .frame, W .going .within)
+    pub inside : at + m ≤ length zone
+    inside = omega (arith, T .fits, length-drop at zone, W .going .within)
 
     pub smallest : 7 ≤ m
-    smallest = omega (arith, T .size, look-good (drop at zone) (T .header) (T .looks) .smallest)
+    smallest = omega (arith, T .size, look-good (drop at zone) h (T .looks) .smallest)
 
     pub packet-here : Whole (take (at + m - at) (drop at zone))
     packet-here = rw cut (packet-whole (drop at zone) (T .looks) fits)
 
-    pub turns : {r : Told} {stored listed : List ℕ} → TellsJudged (judged c t store (take (at + m - at) (drop at zone))) events list r stored listed
-        → Walking c s zone from store₀ n list₀ (r .station) stored listed (r .events) (at + m)
+    pub header-here : h ≡ packetOf (take (at + m - at) (drop at zone))
+    header-here = rw cut (packet-header (drop at zone) (T .looks) fits)
+
+    size-here : length (take (at + m - at) (drop at zone)) ≡ m
+    size-here = ap length cut ∙ length-take-le (sizeOf h) (drop at zone) fits ∙ sym (T .size)
+
+    -- a packet that gives no event, and one that only gives an event
+    module _ {x : Ruling} (e : x ≡ rulingOf c (t .blocks) (t .slots) (take (at + m - at) (drop at zone))) where
+      pub skips : x ≡ Skips → TellsJudged (judged c t store (take (at + m - at) (drop at zone))) events list t events store list
+      skips f = tells-as (ruled-skips c t store (take (at + m - at) (drop at zone)) (sym e ∙ f)) (tells-none t store events list)
+
+      pub says : {k : ℕ} → x ≡ Says k → {i : ℕ} {listed : List ℕ} → i ≡ events + 1
+          → listed ≡ put list (3 * events) (k ∷ h .application .0 ∷ 0 ∷ [])
+          → TellsJudged (judged c t store (take (at + m - at) (drop at zone))) events list t i store listed
+      says {k} f q l =
+          tells-as
+          (ruled-says c t store (take (at + m - at) (drop at zone)) (sym e ∙ f)
+          ∙ ap (λ (g : Packet). gives t store (of k (g .application .0) ∷ [])) (sym header-here))
+          (tells-one t store (of k (h .application .0)) q l)
+
+    -- there is room for the three events of the packet
+    pub ready : Ready t store list events 3
+    ready =
+        record {
+          sound = W .going .sound;
+          owners = W .going .owners;
+          blocks = W .going .stored;
+          enough =
+              elim (W .going .room) [
+                | by-octets l ↦ omega (arith, T .fits, smallest)
+                | by-packet w l ↦ l
+                | by-none e ↦ absurd (omega (arith, T .fits, smallest))
+              ];
+        }
+
+    -- and then for those of what is left
+    room-on : {listed : List ℕ} {k : ℕ} → length listed ≡ length list → k ≤ m → (i : ℕ) → 3 * i ≤ k → Room listed (events + i) (drop (at + m) zone)
+    room-on same l i e =
+        elim (W .going .room) [
+          | by-octets q ↦ by-octets (omega (arith, q, T .fits, length-drop at zone, length-drop (at + m) zone))
+          | by-packet w q ↦
+              by-none
+              (omega (arith, w .all, T .size, T .fits, length-drop at zone, length-drop (at + m) zone, ap sizeOf (look-good (drop at zone) h (T .looks) .is)))
+          | by-none q ↦ absurd (omega (arith, T .fits, smallest))
+        ]
+
+    pub turns : {u : Station} {k : ℕ} {stored listed : List ℕ}
+        → TellsJudged (judged c t store (take (at + m - at) (drop at zone))) events list u k stored listed
+        → Walking c s zone from store₀ n list₀ u stored listed k (at + m)
     turns u =
         let p = take (at + m - at) (drop at zone) in
         let j = judged c t store p in
         let g = W .going in
-        let next : drop (sizeOf (T .header)) (drop at zone) ≡ drop (at + m) zone = ap (λ (i : ℕ). drop i (drop at zone)) (sym (T .size)) ∙ drop-drop m at zone in
+        let next : drop (sizeOf h) (drop at zone) ≡ drop (at + m) zone = ap (λ (i : ℕ). drop i (drop at zone)) (sym (T .size)) ∙ drop-drop m at zone in
         let k : split (drop at zone) ≡ behind p (split (drop (at + m) zone)) =
         split-whole (drop at zone) (T .looks) fits ∙ ap₂ (λ (q xs : List ℕ). behind q (split xs)) (sym cut) next in
         rw (u .station, u .events, u .wrote, u .listed)
@@ -199,20 +251,14 @@ module _ {c : Channel} {s : Station} {zone : List ℕ} {from : ℕ} {store₀ : 
           going =
               record {
                 sound = judged-sound c t store p (W .sized) (g .sound) (g .watched);
+                owners = judged-stays c t store p .owners ∙ g .owners;
                 watched = stays-watched (judged-stays c t store p) (g .watched);
-                frame = g .frame;
-                within = room;
+                within = inside;
+                short = g .short;
                 stored = judged-store c t store p ∙ g .stored ∙ ap (λ (b : ℕ). 8190 * b) (sym (judged-stays c t store p .blocks));
-                listed = omega (arith, g .listed, length-put list (3 * events) (flat (j .events)));
-                few =
-                    omega (
-                      arith,
-                      g .few,
-                      few c t store p packet-here,
-                      ap length cut,
-                      length-take-le (sizeOf (T .header)) (drop at zone) fits,
-                      T .size,
-                    );
+                room =
+                    room-on (length-put list (3 * events) (flat (j .events))) (omega (arith, size-here)) (length (j .events))
+                    (few c t store p packet-here);
               };
           judges =
               W .judges
@@ -228,7 +274,3 @@ module _ {c : Channel} {s : Station} {zone : List ℕ} {from : ℕ} {store₀ : 
               ∙ flat-behind (W .new) (j .events) list₀ n;
           stored = judged-store c t store p ∙ W .stored;
         }
-
--- there is room for the three events of a packet
-pub ready : {c : Channel} {s : Station} {zone store list : List ℕ} {at n : ℕ} → Going c s zone at store list n → at + 7 ≤ 884 → Ready s store list n 3
-ready g l = record { sound = g .sound; blocks = g .stored; enough = omega (arith, g .few, g .listed) }

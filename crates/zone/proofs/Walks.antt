@@ -15,7 +15,6 @@ use Rattle.octets.proofs.Lists.{whole-part}
 use Rattle.octets.proofs.Put.{length-put, part-put-in, part-put-out}
 use Rattle.frame.specs.declared.Accepted.{Accepted}
 use Rattle.frame.specs.declared.Channel.{Channel}
-use Rattle.frame.specs.Header.{pointerMeaning}
 use Rattle.packet.specs.declared.Packet.{Packet}
 use Rattle.packet.specs.declared.Look.the-variants.{Short, Bad, Good}
 use Rattle.packet.specs.Header.{lookOf, sizeOf}
@@ -24,17 +23,16 @@ use Rattle.state.specs.declared.Desk.{Desk}
 use Rattle.state.specs.declared.Station.{Station}
 use Rattle.state.specs.Slots.{deskAt, emptyDesk}
 use Rattle.state.specs.Sound.{Sized, DeskHolds, Sound, DesksSound, deskOctets}
-use Rattle.judge.specs.Event.{Event, bare, flat}
+use Rattle.events.specs.Event.{Event, bare, flat}
 use Rattle.judge.specs.Judge.{Judged, gives, after, judged}
 use Rattle.judge.specs.Contract.{Watched}
 use Rattle.judge.proofs.Keeps.{Stays, stays-all, stays-then, stays-sized, stays-watched, stays-desks, judged-stays, judged-store, judged-sound}
 use Rattle.judge.proofs.Few.{three, few}
 use Rattle.judge.proofs.Most.{going, few-going, most, most-carried}
-use Rattle.judge.proofs.Flat.{flat-behind}
+use Rattle.events.proofs.Flat.{flat-behind}
 use Rattle.zone.specs.Zone.{Split, unfinished, behind, split, Reading, fromPointer, Wholes, Unfinished}
 use Rattle.zone.specs.Walk.{judgedAll, gap, heldAt, readingOf, withHeld, withDesk, Walked, badEvents, walked, walkedBy, walkedFrom}
-use Rattle.zone.specs.declared.Done.{Done}
-use Rattle.zone.specs.Contract.{Lent, Tells}
+use Rattle.zone.specs.Contract.{Lent, TellsWalked}
 use Rattle.zone.proofs.Split.{split-short, split-bad, split-part, split-whole, Cuts, split-wholes, split-left, split-cuts, unfinished-few, unfinished-held, held-unfinished, carried-lacks, carried-whole, carried-part}
 use Rattle.zone.proofs.Split.Cuts.{at-end, at-bad}
 use Rattle.zone.proofs.Readings.{from-few, reading-gap, reading-seamless, Reads, reads-as}
@@ -134,7 +132,7 @@ module _ (s : Station) (i : ℕ) (d : Desk) where
               accepted = f .accepted;
               watched = f .watched;
               application = f .application;
-              length = f .length;
+              bits = f .bits;
               count = f .count;
               places = f .places;
             };
@@ -361,10 +359,10 @@ module _ (c : Channel) (s : Station) (z : Sized s) (desks store : List ℕ) (a :
   module _ (zone : List ℕ) (size : length zone ≡ 884) where
     -- read at the pointer after one event, or none
     pointer-few : (es : List Event) → length es ≤ 1
-        → length (walkedFrom c s desks store a es (fromPointer (pointerMeaning (a .pointer)) zone) .events) ≤ 151
+        → length (walkedFrom c s desks store a es (fromPointer (a .pointer) zone) .events) ≤ 151
     pointer-few es l =
-        let xs = fromPointer (pointerMeaning (a .pointer)) zone in
-        let inside = from-few (pointerMeaning (a .pointer)) zone in
+        let xs = fromPointer (a .pointer) zone in
+        let inside = from-few (a .pointer) zone in
         omega (arith, from-most c s desks store a es xs (omega arith), few-going z)
 
     carried-few : {h : Packet} (held : List ℕ) → Unfinished held → lookOf (held ++ zone) ≡ Good h
@@ -470,13 +468,13 @@ from-led c s desks store a es xs =
     (append-assoc es (judgedAll c s store (split xs .packets) .events) (badEvents (split xs .bad)))
 
 -- what is promised behind some events is promised with them
-pub tells-led : (es : List Event) {w : Walked} {n : ℕ} {list₀ : List ℕ} {r : Done} {desks store list : List ℕ}
-    → Tells w (n + length es) (put list₀ (3 * n) (flat es)) r desks store list → Tells (led es w) n list₀ r desks store list
-tells-led es {w} {n} {list₀} t =
+pub tells-led : (es : List Event) {w : Walked} {n : ℕ} {list₀ : List ℕ} {t : Station} {m : ℕ} {desks store list : List ℕ}
+    → TellsWalked w (n + length es) (put list₀ (3 * n) (flat es)) t m desks store list → TellsWalked (led es w) n list₀ t m desks store list
+tells-led es {w} {n} {list₀} u =
     record {
-      station = t .station;
-      events = t .events ∙ omega (arith, length-append es (w .events));
-      desked = t .desked;
-      stored = t .stored;
-      listed = t .listed ∙ flat-behind es (w .events) list₀ n;
+      station = u .station;
+      events = u .events ∙ omega (arith, length-append es (w .events));
+      desked = u .desked;
+      stored = u .stored;
+      listed = u .listed ∙ flat-behind es (w .events) list₀ n;
     }

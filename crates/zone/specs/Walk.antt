@@ -2,7 +2,7 @@
 use mathlib.Core.Bool.{Bool, true, not, _&&_}
 use mathlib.Core.List.{List, [], _∷_, _++_}
 use Prim.Native.Nat.{ℕ, _-_, _*_}
-use lib.ListN.{length, set, replicate}
+use lib.ListN.{length, replicate}
 use Rattle.octets.specs.Choice.{if_then_else_}
 use Rattle.octets.specs.Number.{part}
 use Rattle.octets.specs.Buffer.{put}
@@ -12,8 +12,8 @@ use Rattle.frame.specs.declared.Counter.{Counter}
 use Rattle.frame.specs.Kinds.{counterFollows}
 use Rattle.state.specs.declared.Desk.{Desk}
 use Rattle.state.specs.declared.Station.{Station}
-use Rattle.state.specs.Slots.{deskAt}
-use Rattle.judge.specs.Event.{Event, bare}
+use Rattle.state.specs.Slots.{deskAt, headOf, stationOf, onDesk}
+use Rattle.events.specs.Event.{Event, bare}
 use Rattle.judge.specs.Judge.{Judged, gives, after, judged}
 use Rattle.zone.specs.Zone.{Split, split, Reading, reading}
 
@@ -48,16 +48,7 @@ abbrev pub withHeld : List ℕ → ℕ → List ℕ → List ℕ
 withHeld desks i left = put desks (8198 * i) (left ++ replicate (8198 - length left) 0)
 
 abbrev pub withDesk : Station → ℕ → Desk → Station
-withDesk s i d =
-    record {
-      spacecraft = s .spacecraft;
-      channels = s .channels;
-      watched = s .watched;
-      desks = set (s .desks) i d;
-      blocks = s .blocks;
-      owner = s .owner;
-      slots = s .slots;
-    }
+withDesk s i d = stationOf (onDesk (headOf s) i d) (s .owner) (s .slots)
 
 -- a desk after a frame: so many octets held, a frame seen, and "this counter is now the last"
 abbrev pub deskAfter : Accepted → ℕ → Desk

@@ -3,7 +3,7 @@ use mathlib.Core.Path.{_≡_}
 use mathlib.Core.Bool.{Bool, true, false}
 use mathlib.Core.List.{List, [], _∷_, _++_}
 use Prim.Native.Nat.{ℕ, zero, suc, _-_, _<_}
-use lib.Dec.{ltb, eqb}
+use lib.Dec.{ltb, leb, eqb}
 use lib.ListN.{length, take, drop}
 use Rattle.octets.specs.Choice.{if_then_else_}
 use Rattle.packet.specs.declared.Packet.{Packet}
@@ -12,8 +12,7 @@ use Rattle.packet.specs.declared.Look.the-variants.{Short, Bad, Good}
 use Rattle.packet.specs.Header.{lookOf, sizeOf}
 use Rattle.frame.specs.declared.Pointer.{Pointer}
 use Rattle.frame.specs.declared.Pointer.the-variants.{Offset, NoStart, Refused}
-use Rattle.frame.specs.Header.{pointerMeaning}
-use Rattle.judge.specs.Event.{Event, bare}
+use Rattle.events.specs.Event.{Event, bare}
 use Rattle.judge.specs.Contract.{Whole}
 
 -- octets read from their first on: the whole packets, whether a bad header was met, and what is left unfinished
@@ -67,21 +66,24 @@ fromPointer (Offset p) zone = drop p zone
 fromPointer NoStart zone = []
 fromPointer Refused zone = []
 
--- "r is what the packet lacked at the zone's start: the pointer must be r if r is below 884, and 2047 otherwise"
-unfoldable pub agrees : ℕ → ℕ → Bool
-agrees r p = if ltb r 884 then eqb p r else eqb p 2047
+-- "r is what the packet lacked at the zone's start: the pointer must be r if r is below 884, and 2047 otherwise". An offset is below 884, and
+-- 2047 is no start
+unfoldable pub agrees : ℕ → Pointer → Bool
+agrees r (Offset p) = eqb p r
+agrees r NoStart = leb 884 r
+agrees r Refused = false
 
 -- the held octets and the zone are one stretch of octets, read from the held packet's header on
-unfoldable pub carriedBy : Look → List ℕ → List ℕ → ℕ → Reading
+unfoldable pub carriedBy : Look → List ℕ → List ℕ → Pointer → Reading
 carriedBy Short held zone p = record { events = []; octets = held ++ zone }
-carriedBy Bad held zone p = record { events = bare 3 ∷ []; octets = fromPointer (pointerMeaning p) zone }
+carriedBy Bad held zone p = record { events = bare 3 ∷ []; octets = fromPointer p zone }
 carriedBy (Good h) held zone p =
     if agrees (sizeOf h - length held) p
     then record { events = []; octets = held ++ zone }
-    else record { events = bare 2 ∷ []; octets = fromPointer (pointerMeaning p) zone }
+    else record { events = bare 2 ∷ []; octets = fromPointer p zone }
 
 -- "If octets are held, they are carried on into the zone. When six are there, a bad header gives event 3 and drops the packet. Else .. if
 -- not, event 2 and the packet is dropped. After a drop, or with nothing held, reading begins at the pointer"
-unfoldable pub reading : List ℕ → List ℕ → ℕ → Reading
-reading [] zone p = record { events = []; octets = fromPointer (pointerMeaning p) zone }
+unfoldable pub reading : List ℕ → List ℕ → Pointer → Reading
+reading [] zone p = record { events = []; octets = fromPointer p zone }
 reading (x ∷ held) zone p = carriedBy (lookOf (x ∷ held ++ zone)) (x ∷ held) zone p

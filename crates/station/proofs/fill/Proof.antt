@@ -12,8 +12,8 @@ use lib.ListN.{length}
 use Rattle.octets.specs.Number.{part}
 use Rattle.octets.proofs.Lists.{unmap, part-part}
 use Rattle.octets.proofs.Tests.{and-right}
-use Rattle.transport.specs.Length.{octetsOfBits, transportSize}
-use Rattle.transport.proofs.Length.{need-covers}
+use Rattle.transport.specs.Length.{octetsOfBits}
+use Rattle.transport.proofs.Length.{size-sum, need-covers}
 use Rattle.state.specs.declared.Station.{Station}
 use Rattle.state.specs.Slots.{slotAt, complete}
 use Rattle.state.specs.Blocks.{numbersOf, table, blocksOf}
@@ -34,9 +34,9 @@ fits-store blocks store e = eqb-true (length store) (8190 * blocks) (and-right (
 -- the blocks of a complete file have room for it and for the ten octets in front of it
 file-room : {s : Station} {k : ℕ} → Sized s → isSound s ≡ true → k < 32 → complete (slotAt s k) ≡ true
     → 10 + octetsOfBits (slotAt s k .bits) ≤ 8190 * length (blocksOf s k)
-unfolding transportSize
 file-room {s} {k} z sound low whole =
-    rw (sound-yes z sound .files k low (complete-held (slotAt s k) whole) .places) (need-covers (slotAt s k .bits))
+    let L = slotAt s k .bits in
+    rw (sound-yes z sound .files k low (complete-held (slotAt s k) whole) .places) (omega (arith, size-sum L, need-covers L))
 
 module _ (s : Station) (store : List ℕ) (k offset : ℕ) (buffer : List ℕ) where
   past-size : octetsOfBits (slotAt s k .bits) < offset → readGives 14 buffer ≡ readAs s store offset buffer (Complete k)

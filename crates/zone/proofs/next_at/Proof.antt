@@ -1,10 +1,9 @@
 -- `zone::next_at` is the definition `nextOf` of the zone from the place on. Assumes nothing.
-use mathlib.Core.Path.{sym, _∙_, ap}
+use mathlib.Core.Path.{sym}
 use native.Mathlib.Omega.{arith}
 use borrow.Author.Needs.{needs}
 use lib.ListN.{drop, length-drop}
 use Rattle.packet.proofs.Tags.{look-told}
-use Rattle.zone.specs.declared.Next.the-variants.{Take}
 use Rattle.zone.proofs.Turns.{next-short, next-bad, next-part, next-whole, seen}
 use Rattle.zone.proofs.next_at.Statement.{statement}
 use Rattle.zone.proofs.next_at.Tie as tie
@@ -48,13 +47,21 @@ sub-if1 c = search needs
 
 returns-3 : tie.Need-returns-3
 returns-3 c =
-    let i = c .before .before .before .before .before .before .before .before .args in
-    sym (next-part (drop (i .at) (i .zone .now)) (seen (i .zone .now) (i .at) (c .before .before .before .before .before .look-at .ensures) (c .before .before .before .look .given .1)) (omega (arith, c .before .size .ensures, length-drop (i .at) (i .zone .now))))
+    let known = c .before .before .before in
+    let looked = known .before .before in
+    let i = looked .before .before .before .args in
+    sym
+    (next-part (drop (i .at) (i .zone .now)) (seen (i .zone .now) (i .at) (looked .look-at .ensures) (known .look .given .1))
+    (omega (arith, c .before .size .ensures, length-drop (i .at) (i .zone .now))))
 
 returns-4 : tie.Need-returns-4
 returns-4 c =
-    let i = c .before .before .before .before .before .before .before .before .args in
-    ap Take (c .before .size .ensures) ∙ sym (next-whole (drop (i .at) (i .zone .now)) (seen (i .zone .now) (i .at) (c .before .before .before .before .before .look-at .ensures) (c .before .before .before .look .given .1)) (omega (arith, c .before .size .ensures, length-drop (i .at) (i .zone .now))))
+    let known = c .before .before .before in
+    let looked = known .before .before in
+    let i = looked .before .before .before .args in
+    sym
+    (next-whole (drop (i .at) (i .zone .now)) (seen (i .zone .now) (i .at) (looked .look-at .ensures) (known .look .given .1))
+    (omega (arith, c .before .size .ensures, length-drop (i .at) (i .zone .now))))
 
 pub next-at-spec : {M : Type 1} → statement M
 next-at-spec =

@@ -27,8 +27,9 @@ start-at-requires c κs = search needs
 
 walk-rest-requires : tie.Need-walk-rest-requires
 walk-rest-requires c κs =
-    let told = c .before .before .before .before .before .before .emit .ensures in
-    (lent-told (start (c .before .before .before .before .before .before .before .before .before) .pre .0) refl _ _ (told .1), (c .before .before .before .start-at .ensures .1, omega (arith, told .0)))
+    let told = c .before .before .before .before .before .before .before .emit .ensures in
+    let lent = start (c .before .before .before .before .before .before .before .before .before .before) .pre .0 in
+    (lent-told lent refl _ _ (told .1), (omega (arith, c .before .before .before .before .start-at .ensures, lent .start), omega (arith, told .0)))
 
 same-length : tie.Need-same-length
 same-length c = search needs
@@ -42,15 +43,21 @@ same-length-3 c = search needs
 returns : tie.Need-returns
 returns c =
     let walked = c .before .before .before .before .before .before in
-    let told = c .before .before .before .before .before .before .before .before .before .before .before .before .before .emit .ensures in
-    let g = c .before .before .before .before .before .before .before .before .before .before .before .before .before .before .before .before in
-    tells-gap _ _ _ _ _ _ (g .is-gap .ensures) (c .before .before .before .before .before .before .before .before .before .before .before .before .before .before .before .if1 .taken) (start g .pre .0 .frame) (walked .before .before .before .before .start-at .ensures .0) (told .0) (told .1) (walked .walk-rest .ensures)
+    let started = walked .before .before .before .before .before in
+    let emitted = started .before .before .before in
+    let jumped = emitted .before .before in
+    let g = jumped .before in
+    let told = emitted .emit .ensures in
+    tells-gap _ _ _ _ _ _ (g .is-gap .ensures) (jumped .if1 .taken) (start g .pre .0 .frame) (started .start-at .ensures) (told .0) (told .1)
+    (walked .walk-rest .ensures)
 
 start-at-requires-2 : tie.Need-start-at-requires-2
 start-at-requires-2 c κs = search needs
 
 walk-rest-requires-2 : tie.Need-walk-rest-requires-2
-walk-rest-requires-2 c κs = search needs
+walk-rest-requires-2 c κs =
+    let lent = start (c .before .before .before .before .before .before .before .before) .pre .0 in
+    (lent, (omega (arith, c .before .before .before .before .start-at2 .ensures, lent .start), omega arith))
 
 same-length-4 : tie.Need-same-length-4
 same-length-4 c = search needs
@@ -64,16 +71,19 @@ same-length-6 c = search needs
 returns-2 : tie.Need-returns-2
 returns-2 c =
     let walked = c .before .before .before .before .before .before in
-    let none = c .before .before .before .before .before .before .before .before .before .before .before in
-    let g = none .before .before .before in
-    tells-fresh _ _ _ _ _ _ (g .is-gap .ensures) (none .before .before .if1 .left) (none .if2 .taken) (start g .pre .0 .frame) (walked .before .before .before .before .start-at2 .ensures .0) (walked .walk-rest2 .ensures)
+    let started = walked .before .before .before .before .before in
+    let unheld = started .before in
+    let followed = unheld .before .before in
+    let g = followed .before in
+    tells-fresh _ _ _ _ _ _ (g .is-gap .ensures) (followed .if1 .left) (unheld .if2 .taken) (start g .pre .0 .frame) (started .start-at2 .ensures)
+    (walked .walk-rest2 .ensures)
 
 cast-carry-on : tie.Need-cast-carry-on
 cast-carry-on c = search needs
 
 carry-on-requires : tie.Need-carry-on-requires
 carry-on-requires c κs =
-    let i = start (c .before .before .before .before .before .before .before) in
+    let i = start (c .before .before .before .before .before .before .before .before) in
     record { lent = i .pre .0; orderly = i .pre .1; here = refl; some = omega arith }
 
 same-length-7 : tie.Need-same-length-7
@@ -87,8 +97,9 @@ same-length-9 c = search needs
 
 returns-3 : tie.Need-returns-3
 returns-3 c =
-    let some = c .before .before .before .before .before .before .before .before .before .before .before in
-    tells-seamless _ _ _ _ _ _ (some .before .before .before .is-gap .ensures) (some .before .before .if1 .left) (c .before .before .before .before .before .before .carry-on .ensures)
+    let carried = c .before .before .before .before .before .before in
+    let followed = carried .before .before .before .before .before .before .before .before in
+    tells-seamless _ _ _ _ _ _ (followed .before .is-gap .ensures) (followed .if1 .left) (carried .carry-on .ensures)
 
 pub walk-frame-spec : {M : Type 1} → statement M
 walk-frame-spec =

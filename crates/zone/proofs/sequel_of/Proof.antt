@@ -1,12 +1,12 @@
--- `zone::fate_of` is the definition `fateOf` of what stands at the packet's start. Assumes nothing.
+-- `zone::sequel_of` is the definition `sequelOf` of what stands at the packet's start. Assumes nothing.
 use mathlib.Core.Path.{sym, _∙_}
 use mathlib.Core.Logic.{⊎-elim}
 use native.Mathlib.Omega.{arith}
 use borrow.Author.Needs.{needs}
 use Rattle.packet.proofs.Tags.{look-told}
-use Rattle.zone.proofs.Carry.{fate-short, fate-spoilt, fate-agrees, fate-differs}
-use Rattle.zone.proofs.fate_of.Statement.{statement}
-use Rattle.zone.proofs.fate_of.Tie as tie
+use Rattle.zone.proofs.Carry.{sequel-short, sequel-spoilt, sequel-agrees, sequel-differs}
+use Rattle.zone.proofs.sequel_of.Statement.{statement}
+use Rattle.zone.proofs.sequel_of.Tie as tie
 
 look-at-requires : tie.Need-look-at-requires
 look-at-requires c κs = search needs
@@ -17,7 +17,7 @@ enum-known-look c = search needs
 returns : tie.Need-returns
 returns c =
     let e = sym (c .before .look-at .ensures) in
-    ⊎-elim (λ tag. fate-short _ _ (e ∙ look-told _ tag)) (λ tag. fate-spoilt _ _ (e ∙ look-told _ tag)) (c .match .keys2)
+    ⊎-elim (λ tag. sequel-short _ _ (e ∙ look-told _ tag)) (λ tag. sequel-spoilt _ _ (e ∙ look-told _ tag)) (c .match .keys2)
 
 size-requires : tie.Need-size-requires
 size-requires c κs = search needs
@@ -35,16 +35,16 @@ agrees-requires c κs = search needs
 
 returns-2 : tie.Need-returns-2
 returns-2 c =
-    fate-agrees _ _ (sym (c .before .before .before .before .before .before .look-at .ensures) ∙ c .before .before .before .before .look .given .1)
+    sequel-agrees _ _ (sym (c .before .before .before .before .before .before .look-at .ensures) ∙ c .before .before .before .before .look .given .1)
     (c .before .before .size .ensures) (c .before .agrees .ensures) (c .if1 .taken)
 
 returns-3 : tie.Need-returns-3
 returns-3 c =
-    fate-differs _ _ (sym (c .before .before .before .before .before .before .look-at .ensures) ∙ c .before .before .before .before .look .given .1)
+    sequel-differs _ _ (sym (c .before .before .before .before .before .before .look-at .ensures) ∙ c .before .before .before .before .look .given .1)
     (c .before .before .size .ensures) (c .before .agrees .ensures) (c .if1 .left)
 
-pub fate-of-spec : {M : Type 1} → statement M
-fate-of-spec =
+pub sequel-of-spec : {M : Type 1} → statement M
+sequel-of-spec =
     tie.close
     (tie.spec
     look-at-requires
