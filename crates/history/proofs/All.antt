@@ -1,8 +1,8 @@
 -- Every demand on calls and runs, proved. Assumes nothing.
 use Rattle.frame.proofs.Plainly.{plainly, zone-plainly}
-use Rattle.packet.proofs.Plainly.{plainly as packet-plainly}
+use Rattle.packet.proofs.Plainly.{plainly as packet-plainly, bad-plainly}
 use Rattle.history.specs.Demands.{First, Second, Third, Demands}
-use Rattle.history.proofs.Refused.{every-answer, every-set-up}
+use Rattle.history.proofs.Refused.{every-answer, zeros-after, every-set-up}
 use Rattle.history.proofs.Sound.{every-sound, few-events}
 use Rattle.history.proofs.Follows.{held-exactly}
 use Rattle.history.proofs.Order.{packets-right, complete-exactly}
@@ -19,7 +19,7 @@ use Rattle.history.proofs.Events.{events-exactly}
 use Rattle.history.proofs.Headers.{headers-read}
 
 first : First
-first = record { answers = every-answer; sets-up = every-set-up; told = every-told; few = few-events; sound = every-sound }
+first = record { answers = every-answer; zeros-after = zeros-after; sets-up = every-set-up; told = every-told; few = few-events; sound = every-sound }
 
 second : Second
 second =
@@ -27,6 +27,7 @@ second =
       header = plainly;
       zone = zone-plainly;
       packet = packet-plainly;
+      bad-packet = bad-plainly;
       sorted = sorted-by-channel;
       files-sorted = files-sorted;
       heard = every-channel-heard;

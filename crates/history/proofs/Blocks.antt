@@ -20,7 +20,7 @@ use Rattle.state.specs.declared.Station.{Station}
 use Rattle.state.specs.Slots.{slotAt, held}
 use Rattle.state.specs.Sound.{Sized, Sound}
 use Rattle.state.proofs.Places.{stands-taken, stands-once, free-or-stands, places-once-each}
-use Rattle.judge.specs.Event.{Event, at, Among, flat}
+use Rattle.events.specs.Event.{Event, at, Among, flat}
 use Rattle.judge.specs.Judge.{Judged, judged}
 use Rattle.judge.specs.Contract.{Watched, Whole}
 use Rattle.judge.proofs.Exact.{abandoned-exactly}

@@ -16,7 +16,7 @@ use Rattle.state.specs.declared.Slot.{Slot}
 use Rattle.state.specs.declared.Station.{Station}
 use Rattle.state.specs.Slots.{slotAt, held, complete}
 use Rattle.room.proofs.Keeps.{accepted-held}
-use Rattle.judge.specs.Event.{Among, Event, at}
+use Rattle.events.specs.Event.{Among, Event, at}
 use Rattle.judge.specs.Judge.{dataOf, firstSlot}
 use Rattle.history.specs.Run.{World, Call, after, run, Start, fresh}
 use Rattle.history.specs.Things.{Thing, did, didAll, things, allThings}

@@ -18,9 +18,9 @@ use Rattle.packet.proofs.Looks.{look-good}
 use Rattle.transport.specs.declared.Begun.{Begun}
 use Rattle.transport.specs.declared.Begun.the-variants.{Wrong, Right}
 use Rattle.transport.specs.declared.Transport.{Transport}
-use Rattle.transport.specs.Length.{transportOf, transportSize, need}
+use Rattle.transport.specs.Length.{transportOf, need}
 use Rattle.transport.specs.Shape.{begunOf}
-use Rattle.transport.proofs.Length.{need-covers}
+use Rattle.transport.proofs.Length.{size-sum, need-covers}
 use Rattle.state.specs.declared.Station.{Station}
 use Rattle.state.specs.Slots.{slotAt, held}
 use Rattle.state.specs.Blocks.{room}
@@ -30,11 +30,11 @@ use Rattle.room.specs.Find.{freeSlot, fileOf}
 use Rattle.room.specs.Move.{letGo}
 use Rattle.room.proofs.Find.{free-at, free-nowhere, file-at, file-only, same-pair, pair-same}
 use Rattle.room.proofs.Keeps.{refiled-slot, refiled-slots, letGo-refiles}
-use Rattle.judge.specs.Event.{Event, of, at, Among}
-use Rattle.judge.specs.Judge.{Judged, dataOf, checkOf, goesOn}
+use Rattle.events.specs.Event.{Event, of, at, Among}
+use Rattle.judge.specs.Judge.{Judged, dataOf, checkOf, goesOn, nextKind}
 use Rattle.judge.specs.Packets.{Undamaged, Starting, Starts}
 use Rattle.judge.specs.Contract.{Whole}
-use Rattle.judge.proofs.Parts.{nextKind, RightStart, begun-right, right-begun, starting, following-exactly, goes-following, Begins, Judges, judges-as}
+use Rattle.judge.proofs.Parts.{RightStart, begun-right, right-begun, starting, following-exactly, goes-following, Begins, Judges, judges-as}
 use Rattle.judge.proofs.Parts.Begins.{wrong-shape, no-slot as without-slot, no-room as without-room, opens-at}
 use Rattle.judge.proofs.Parts.Judges.{fill, other, damaged, begins-new, begins-over, stray, goes-on, breaks-off}
 use Rattle.judge.proofs.Steps.{rid, Ending}
@@ -42,7 +42,7 @@ use Rattle.judge.proofs.Exact as exact
 use Rattle.judge.proofs.Exact.{cleared, Given, given-exactly}
 use Rattle.judge.proofs.Exact.Given.{wrong-check as check-wrong, no-file as file-missing, abandoned, wrong-start, all-held, too-large, opened, accepted, completed, whole, reserved as is-reserved}
 use Rattle.history.specs.Store.{stationAt, storeAt, EveryPacket}
-use Rattle.history.specs.Events.{OfPair, Later, bitsIn, needIn, WellBegun, FreeFor, LowestFree, Asks, Finds, GoesOn, Why, Rising, EventsExactly}
+use Rattle.history.specs.Events.{OfPair, Later, bitsIn, needIn, Shape, WellBegun, FreeFor, LowestFree, Asks, Finds, GoesOn, Why, Rising, EventsExactly}
 use Rattle.history.specs.Events.Why.{reserved, wrong-check, another-starts, ill-begun, no-slot, no-room, opens, opens-whole, no-file, next, next-is-last, not-the-next}
 use Rattle.history.proofs.Moments.{Settled, moment-settled}
 use Rattle.history.proofs.Blocks.{moment-packet}
@@ -64,22 +64,21 @@ module _ (p : List ℕ) where
   need-is g = ap (λ (u : Transport). need (u .bits)) (start-is g)
 
   starts-asks : {t : Transport} → Starts p t → Asks p
-  unfolding transportSize
   starts-asks {t} g =
       let r : RightStart (packetOf p .flags) (dataOf p) (transportOf (dataOf p)) =
       subst (RightStart (packetOf p .flags) (dataOf p)) (start-is g) (begun-right (packetOf p .flags) (dataOf p) (g .right)) in
-      record { undamaged = g .undamaged; begun = record { ten = r .long; bits = r .good; shape = r .shape } }
+      let shape : Shape p = ⊎-elim inl (λ (three, size, one). inr (three, size ∙ size-sum (bitsIn p), one)) (r .shape) in
+      record { undamaged = g .undamaged; begun = record { ten = r .long; bits = r .good; shape = shape } }
 
   well-right : WellBegun p → begunOf (packetOf p .flags) (dataOf p) ≡ Right (transportOf (dataOf p))
-  unfolding transportSize
   well-right w =
       right-begun (packetOf p .flags) (dataOf p)
       (record {
         long = w .ten;
         is = refl;
         good = w .bits;
-        shape = w .shape;
-        few = ⊎-elim (λ (_, size, _). omega arith) (λ (_, size, one). omega (arith, need-covers (bitsIn p))) (w .shape);
+        shape = ⊎-elim inl (λ (three, size, one). inr (three, size ∙ sym (size-sum (bitsIn p)), one)) (w .shape);
+        few = ⊎-elim (λ (_, size, _). omega arith) (λ (_, size, one). omega (arith, need-covers (bitsIn p), size-sum (bitsIn p))) (w .shape);
         some = ⊎-elim (λ (_, _, two). omega arith) (λ (_, _, one). omega arith) (w .shape);
       })
 

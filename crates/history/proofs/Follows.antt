@@ -23,9 +23,8 @@ use Rattle.state.specs.Slots.{slotAt, held, complete, needOf}
 use Rattle.state.specs.Blocks.{blocksOf}
 use Rattle.octets.proofs.Tests.{and-left, and-right}
 use Rattle.room.proofs.Keeps.{accepted-held}
-use Rattle.judge.specs.Event.{Event, at, Among}
-use Rattle.judge.specs.Judge.{Judged, dataOf, firstSlot, nextSlot, judged}
-use Rattle.judge.proofs.Parts.{nextKind}
+use Rattle.events.specs.Event.{Event, at, Among}
+use Rattle.judge.specs.Judge.{Judged, dataOf, firstSlot, nextSlot, judged, nextKind}
 use Rattle.judge.proofs.Keeps.{file-going}
 use Rattle.judge.proofs.Steps.{eventsOf, Step, judged-slot}
 use Rattle.judge.proofs.Steps.Step.{same, ended, begun, begun-over, gone-on}

@@ -18,7 +18,7 @@ use Rattle.octets.proofs.Tests.{and-right}
 use Rattle.zone.specs.Walk.{walked}
 use Rattle.station.specs.SetUp.{desksFit}
 use Rattle.station.specs.Files.{storeFits}
-use Rattle.station.specs.Frame.{frameGives, lentRight, channelAt, taken, examinedFrame, framed}
+use Rattle.station.specs.Frame.{frameGives, lentRight, channelAt, admitted, taken, examinedFrame, framed}
 use Rattle.history.specs.Run.{World, frameIn}
 use Rattle.history.specs.Things.{examinedIn}
 
@@ -41,12 +41,12 @@ pub data Framing (w : World) (f list : List ℕ) : Type 0 where
 -- what is enough for a frame to be taken
 pub takes-good : (w : World) (f list : List ℕ) {a : Accepted} → lentRight (w .station) (w .desks) (w .store) list ≡ true → isSound (w .station) ≡ true
     → areDesksSound (w .station) (w .desks) ≡ true → examinedIn w f ≡ Good a → Taken w f list
-unfolding framed examinedFrame
+unfolding framed admitted examinedFrame
 takes-good w f list {a} l h d e =
     record { frame = a; lent = l; sound = h; desks-sound = d; good = e; gives = rw (l, h, d, e) }
 
 pub framing : (w : World) (f list : List ℕ) → Framing w f list
-unfolding framed examinedFrame
+unfolding framed admitted examinedFrame
 framing w f list = lends (lentRight s (w .desks) (w .store) list) refl
   where
     s : Station

@@ -17,9 +17,8 @@ use Rattle.state.specs.declared.Station.{Station}
 use Rattle.state.specs.Slots.{slotAt, noFile}
 use Rattle.state.specs.Blocks.{blocksOf, Stands}
 use Rattle.state.proofs.Places.{stands-low, stands-once}
-use Rattle.judge.specs.Event.{Event, at, Among}
-use Rattle.judge.specs.Judge.{Judged, judged}
-use Rattle.judge.proofs.Parts.{nextKind}
+use Rattle.events.specs.Event.{Event, at, Among}
+use Rattle.judge.specs.Judge.{Judged, judged, nextKind}
 use Rattle.judge.proofs.Keeps.{judged-stays}
 use Rattle.judge.proofs.Steps.{eventsOf, Step, judged-slot}
 use Rattle.judge.proofs.Steps.Step.{same, ended, begun, begun-over, gone-on}

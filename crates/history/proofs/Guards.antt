@@ -8,7 +8,6 @@ use native.Mathlib.Omega.{arith}
 use borrow.Author.Tests.{eq-eqb, le-leb, ltb-true}
 use lib.Dec.{ltb}
 use lib.ListN.{length, getD, set, replicate, length-append, length-replicate}
-use Rattle.frame.specs.Header.{pointerMeaning}
 use Rattle.transport.specs.declared.Transport.{Transport}
 use Rattle.transport.specs.Length.{goodLength, octetsOfBits, transportSize, need, rest}
 use Rattle.records.specs.declared.HeaderAnswer.{HeaderAnswer}
@@ -25,11 +24,11 @@ use Rattle.octets.proofs.Tests.{and-both, and-left, and-right}
 use Rattle.noise.proofs.Mixing.{octets-mixed}
 use Rattle.room.specs.Find.{freeFrom, fileFrom}
 use Rattle.room.specs.Move.{letGo}
-use Rattle.judge.specs.Event.{Event, of, at}
+use Rattle.events.specs.Event.{Event, of, at}
 use Rattle.judge.specs.Packets.{Starts}
-use Rattle.zone.specs.Zone.{split, fromPointer}
+use Rattle.zone.specs.Zone.{split}
 use Rattle.zone.specs.Walk.{deskAfter, gap}
-use Rattle.zone.proofs.Readings.{reading-none}
+use Rattle.zone.proofs.Readings.{reading-first}
 use Rattle.station.specs.SetUp.{channelOf, freshStation, setUp}
 use Rattle.station.specs.Files.{answered, released}
 use Rattle.station.proofs.Fresh.{fresh-desk}
@@ -169,9 +168,9 @@ module _ (list : List ℕ) (listed : 900 ≤ length list) where
   one-brings : (n : ℕ) → n < 256 → (zone : List ℕ) → length zone ≡ 884 → (ps : List (List ℕ)) → split zone ≡ cut ps []
       → {c : ℕ} {xs ys : List Slot} {es : List Event} → MakesOn c xs ps ys es
       → (w : World) → ListensOn c w n [] xs → BringsOn c w (frame (sentOn c n 0 zone) list ∷ []) (n + 1) ys es
-  unfolding run allSaid fromPointer pointerMeaning
+  unfolding run allSaid
   one-brings n low zone size ps cuts {c} does w L =
-      let (v, t) = step L low 0 (inl (omega arith)) zone list size listed zone (reading-none zone 0) ps [] cuts (n + 1) refl does in
+      let (v, t) = step L low 0 (inl (omega arith)) zone list size listed zone (reading-first zone) ps [] cuts (n + 1) refl does in
       record { listens = v; tells = append-nil (said w (frame (sentOn c n 0 zone) list)) ∙ t }
 
   -- a whole packet with nothing but fill behind it
@@ -401,7 +400,7 @@ octets-each (x ∷ xs) e (suc i) = octets-each xs (and-right (ltb x 256) (each (
 
 -- the whole packet of the published frame
 moment : (m : Moment) × Octets (m .sent) × (t : Transport) × Starts (m .p) t
-unfolding run fromPointer pointerMeaning each
+unfolding run each
 moment =
     let (x, q) = program in
     let list = replicate {A = ℕ} 900 0 in
@@ -419,7 +418,7 @@ moment =
         brought =
             brings-packets (fresh-listens x q) (omega arith) 0 (inl (omega arith)) zone list
             (omega (arith, length-append whole (fill 865), fill-size 865 (omega arith) (omega arith))) listed
-            zone (reading-none zone 0) (whole ∷ fill 865 ∷ []) [] (whole-cuts 865 (omega arith) (omega arith) 5 (omega arith));
+            zone (reading-first zone) (whole ∷ fill 865 ∷ []) [] (whole-cuts 865 (omega arith) (omega arith) 5 (omega arith));
       },
       sent-octets 2 0 0 zone (octets-each (plain 2 0 0 zone) refl),
       bits 8,

@@ -9,6 +9,7 @@ use lib.ListN.{length, take, replicate, length-replicate}
 use lib.Seq.{take-all}
 use Rattle.octets.proofs.Reasons.{None, decided-cases, none-decided, first-decided, first-between}
 use Rattle.records.specs.declared.RecordAnswer.the-variants.{Refused}
+use Rattle.records.specs.Table.{fixedTypes}
 use Rattle.records.specs.Records.{headerOf, records, headerSays, nth}
 use Rattle.records.specs.Reader.{fieldsOf, refusedHeader, readHeader, readRecord}
 use Rattle.records.specs.Together.{Accepted}
@@ -23,36 +24,36 @@ use Rattle.history.specs.Headers.{ReadToMeaning, HeaderRight, HeadersRea
 use Rattle.history.proofs.Pages.{files-carried}
 
 module _ (file : List ℕ) where
-  header-accepted : None (headerSays file) → Accepted file
-  header-accepted none = none-decided true (λ n. false) (headerSays file) none
+  header-accepted : None (headerSays fixedTypes file) → Accepted fixedTypes file
+  header-accepted none = none-decided true (λ n. false) (headerSays fixedTypes file) none
 
-  header-read : None (headerSays file) → ReadToMeaning file
+  header-read : None (headerSays fixedTypes file) → ReadToMeaning file
   unfolding readHeader readRecord
   header-read none =
-      let whole = together file (header-accepted none) in
+      let whole = together fixedTypes file (header-accepted none) in
       record {
-        none = none-decided 0 (λ n. n) (headerSays file) none;
+        none = none-decided 0 (λ n. n) (headerSays fixedTypes file) none;
         together = whole;
         placed =
             record {
               there = λ r n m fixed. place-of-one (r .kind) r (records (headerOf file)) (whole .once (r .kind) n fixed) m refl;
               absent = λ kind away. place-of-none kind (records (headerOf file)) away;
             };
-        fields = none-decided (fieldsOf (headerOf file)) refusedHeader (headerSays file) none;
-        asked = λ n. none-decided (nth (records (headerOf file)) n) Refused (headerSays file) none;
+        fields = none-decided (fieldsOf (headerOf file)) refusedHeader (headerSays fixedTypes file) none;
+        asked = λ n. none-decided (nth (records (headerOf file)) n) Refused (headerSays fixedTypes file) none;
       }
 
   -- of any octets
   pub header-right : HeaderRight file
   unfolding readHeader readRecord
   header-right =
-      decided-cases (λ (u : Unit {0}). HeaderRight file) (headerSays file) {done = tt} {refused = λ n. tt} (λ none. inl (header-read none))
+      decided-cases (λ (u : Unit {0}). HeaderRight file) (headerSays fixedTypes file) {done = tt} {refused = λ n. tt} (λ none. inl (header-read none))
       (λ n first.
       inr (
         n,
         record {
           first = first-decided 0 (λ m. m) first;
-          range = first-between 20 26 first (header-between 26 (omega arith) file);
+          range = first-between 20 26 first (header-between fixedTypes 26 (omega arith) file);
           fields = first-decided (fieldsOf (headerOf file)) refusedHeader first;
           asked = λ i. first-decided (nth (records (headerOf file)) i) Refused first;
         },

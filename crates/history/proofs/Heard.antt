@@ -5,7 +5,7 @@ use Prim.Native.Nat.{ℕ, _<_}
 use native.Mathlib.Omega.{arith}
 use lib.ListN.{length, length-append}
 use Rattle.octets.proofs.Lists.{snoc-once, flatten-append}
-use Rattle.judge.specs.Event.{Event}
+use Rattle.events.specs.Event.{Event}
 use Rattle.zone.specs.Zone.{Wholes}
 use Rattle.history.specs.Openings.{counterIn, zoneIn, OnDesk, leaving, Carried, Opens, Closes}
 use Rattle.history.specs.Openings.Opens.{carries-on, begins-anew}

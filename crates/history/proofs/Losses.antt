@@ -16,7 +16,7 @@ use Rattle.frame.specs.declared.Examined.the-variants.{Good}
 use Rattle.frame.specs.declared.Frame.{Frame}
 use Rattle.noise.proofs.Mixing.{mixed-twice}
 use Rattle.frame.specs.Header.{derandomised, frameOf}
-use Rattle.frame.proofs.Answers.{of-header, good-header, pointer-good}
+use Rattle.frame.proofs.Answers.{of-header, pointer-good}
 use Rattle.packet.specs.declared.Packet.{Packet}
 use Rattle.packet.specs.declared.Look.the-variants as look
 use Rattle.packet.specs.Header.{packetOf, sizeOf, bad, lookOf}
@@ -27,7 +27,7 @@ use Rattle.state.specs.Slots.{noFile, held, incomplete, ofPair}
 use Rattle.state.specs.Blocks.{needs}
 use Rattle.transport.specs.Length.{octetsOfBits, transportSize, need}
 use Rattle.room.specs.Find.{freeFrom, fileFrom}
-use Rattle.judge.specs.Event.{Event, bare}
+use Rattle.events.specs.Event.{Event, bare}
 use Rattle.judge.specs.Contract.{Whole}
 use Rattle.zone.specs.Zone.{Unfinished}
 use Rattle.zone.specs.Zone.Unfinished.{header, packet}
@@ -227,9 +227,7 @@ pointed-beyond w f list e =
     let not-0 : answer w (frame f list) ≡ 0 → ⊥ =
     λ z.
     let t = frame-taken w f list z in
-    ⊎-elim (λ l. omega (arith, l, good-header (s .spacecraft) ws f (t .frame) (t .good) .pointer))
-    (λ l. omega (arith, l, good-header (s .spacecraft) ws f (t .frame) (t .good) .pointer))
-    (pointer-good (s .spacecraft) ws f (t .frame) (t .good)) in
+    ⊎-elim (λ l. omega (arith, l)) (λ l. omega (arith, l)) (pointer-good (s .spacecraft) ws f (t .frame) (t .good)) in
     (every-answer w (frame f list) .refused not-0 .world, rw (ne-eqb (answer w (frame f list)) 0 not-0))
 
 -- the zone of a frame with a whole packet behind some octets, and what the frame says

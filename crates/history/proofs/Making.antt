@@ -3,11 +3,9 @@ use mathlib.Core.Path.{_≡_, refl, ap, _∙_}
 use mathlib.Core.Bool.{true, false}
 use mathlib.Core.List.{List, [], _∷_, _++_}
 use Prim.Native.Nat.{ℕ, _-_, _≤_, _<_}
-use lib.Dec.{eqb}
 use lib.ListN.{getD, set}
 use Rattle.packet.specs.declared.Packet.{Packet}
 use Rattle.packet.specs.Header.{packetOf}
-use Rattle.crc.specs.Crc.{crcOf}
 use Rattle.transport.specs.declared.Transport.{Transport}
 use Rattle.transport.specs.declared.Begun.the-variants.{Wrong, Right}
 use Rattle.transport.specs.Length.{need}
@@ -19,10 +17,10 @@ use Rattle.state.specs.Blocks.{needs, room}
 use Rattle.room.specs.declared.Found.the-variants.{At, Nothing}
 use Rattle.room.specs.Find.{freeFrom, freeSlot, fileFrom, fileOf}
 use Rattle.room.specs.Move.{opened, letGo}
-use Rattle.judge.specs.Event.{Event, of, at}
-use Rattle.judge.specs.Judge.{dataOf, checkOf, firstSlot, nextSlot, goesOn, judged}
+use Rattle.events.specs.Event.{Event, of, at}
+use Rattle.judge.specs.Judge.{dataOf, firstSlot, nextSlot, goesOn, judged, nextKind, isIntact}
 use Rattle.judge.specs.Packets.{Undamaged, Starting}
-use Rattle.judge.proofs.Parts.{openEvents, nextKind, judged-fill, judged-other, judged-damaged, judged-starts, judged-later, starts-none, starts-old, begins-wrong, begins-opens, begins-no-room, opens-as, continues-none, continues-as, continues-ends}
+use Rattle.judge.proofs.Parts.{openEvents, judged-fill, judged-other, judged-damaged, judged-starts, judged-later, starts-none, starts-old, begins-wrong, begins-opens, begins-no-room, opens-as, continues-none, continues-as, continues-ends}
 use Rattle.judge.proofs.Keeps.{judged-stays}
 use Rattle.zone.proofs.Walks.{all-first}
 use Rattle.station.specs.SetUp.{channelOf}
@@ -56,7 +54,7 @@ module _ (p d : List ℕ) (h : Packet) (head : h ≡ packetOf p) (carries : data
   pub makes-other : {n : ℕ} → 2015 < h .application .0 → h .application .0 ≤ 2046 → MakesOneOn n xs p xs (of 13 (h .application .0) ∷ [])
   makes-other {n} l m = record { from = λ s store e b. rw (judged-other (channelOf n) s store p head l m) (e, refl) }
 
-  pub makes-damaged : {n : ℕ} → h .application .0 ≤ 2015 → eqb (crcOf (dataOf p)) (checkOf p) ≡ false
+  pub makes-damaged : {n : ℕ} → h .application .0 ≤ 2015 → isIntact p ≡ false
       → MakesOneOn n xs p xs (of 4 (h .application .0) ∷ [])
   makes-damaged {n} l w = record { from = λ s store e b. rw (judged-damaged (channelOf n) s store p head l w) (e, refl) }
 

@@ -13,7 +13,7 @@ use Rattle.packet.specs.declared.Look.{Look}
 use Rattle.packet.specs.declared.Look.the-variants.{Short, Bad, Good}
 use Rattle.packet.specs.Header.{lookOf, sizeOf}
 use Rattle.packet.proofs.Looks.{look-tells}
-use Rattle.judge.specs.Event.{Event}
+use Rattle.events.specs.Event.{Event}
 use Rattle.zone.specs.Zone.{Split, split, Unfinished}
 use Rattle.zone.specs.Walk.{badEvents}
 use Rattle.zone.proofs.Split.{Cuts, split-cuts, split-wholes, split-left, split-bad, split-unfinished, cut-all, carried-lacks}

@@ -3,7 +3,7 @@ use mathlib.Core.Path.{_≡_, refl, sym, ap, ap₂, subst, _∙_}
 use mathlib.Core.Bool.{Bool, true, false}
 use mathlib.Core.Logic.{_⊎_, inl, inr, ⊎-elim}
 use mathlib.Core.List.{List, [], _∷_, _++_, append-nil, map, List·Memᴰ·not-nil}
-use Prim.Native.Nat.{ℕ, _+_, _-_, _*_, _≤_, _<_}
+use Prim.Native.Nat.{ℕ, _-_, _*_, _≤_, _<_}
 use native.Mathlib.Omega.{arith}
 use borrow.Author.Tests.{eq-eqb}
 use lib.ListN.{length, take, drop}
@@ -13,14 +13,14 @@ use Rattle.octets.proofs.Decide.{tells, told-true}
 use Rattle.octets.proofs.Lists.{in-either, if-true}
 use Rattle.frame.specs.declared.Channel.{Channel}
 use Rattle.frame.specs.declared.Counter.{Counter}
-use Rattle.frame.specs.Header.{derandomised}
+use Rattle.frame.specs.Header.{derandomised, pointerMeaning}
 use Rattle.frame.proofs.Answers.{good-header, good-size, pointer-good}
 use Rattle.frame.proofs.Sizes.{length-zone, length-derandomised}
 use Rattle.packet.specs.Header.{sizeOf}
 use Rattle.state.specs.declared.Desk.{Desk}
 use Rattle.state.specs.declared.Station.{Station}
 use Rattle.state.specs.Slots.{deskAt, emptyDesk}
-use Rattle.judge.specs.Event.{Event, bare, Among}
+use Rattle.events.specs.Event.{Event, bare, Among}
 use Rattle.judge.specs.Judge.{Judged, judged}
 use Rattle.judge.proofs.Exact.{Given, given-exactly}
 use Rattle.judge.proofs.Exact.Given.{wrong-check, no-file, abandoned, wrong-start, all-held, too-large, opened, accepted, completed, whole, reserved}
@@ -96,7 +96,7 @@ module _ {w : World} (h : SoundWorld w) {f list : List ℕ} (t : Taken w f list)
       let s = w .station in
       ap (λ (x : Counter). x .0) (good-header (s .spacecraft) (take (s .channels) (s .watched)) f (t .frame) (t .good) .counter)
 
-  pointing : t .frame .pointer ≡ pointerIn f
+  pointing : t .frame .pointer ≡ pointerMeaning (pointerIn f)
   pointing =
       let s = w .station in
       good-header (s .spacecraft) (take (s .channels) (s .watched)) f (t .frame) (t .good) .pointer
@@ -109,10 +109,10 @@ module _ {w : World} (h : SoundWorld w) {f list : List ℕ} (t : Taken w f list)
   at-place : (es : List Event) → atPointer es (zoneIn f) (t .frame .pointer) ≡ record { events = es; octets = drop (pointerIn f) (zoneIn f) }
   at-place es =
       let s = w .station in
-      let good : (pointerIn f < 884) ⊎ (pointerIn f ≡ 2047) =
-      subst (λ (p : ℕ). (p < 884) ⊎ (p ≡ 2047)) pointing (pointer-good (s .spacecraft) (take (s .channels) (s .watched)) f (t .frame) (t .good)) in
       ap (atPointer es (zoneIn f)) pointing
-      ∙ ap (λ (xs : List ℕ). record { events = es; octets = xs }) (from-place (pointerIn f) (zoneIn f) zone-long good)
+      ∙ ap (λ (xs : List ℕ). record { events = es; octets = xs })
+      (from-place (pointerIn f) (zoneIn f) zone-long
+      (pointer-good (s .spacecraft) (take (s .channels) (s .watched)) f (t .frame) (t .good)))
 
   -- no frame is missing
   onto-held : (desk .seen ≡ true → Follows desk f) → its ≡ reading (desk .held) (zoneIn f) (t .frame .pointer)
@@ -123,7 +123,7 @@ module _ {w : World} (h : SoundWorld w) {f list : List ℕ} (t : Taken w f list)
       let g = told-true (gap-exactly (deskAt (w .station) (t .frame .desk)) (t .frame .counter)) e in
       g .1 (counted ∙ n (g .0))))
 
-  compared : (r n : ℕ) → n ≡ r → agrees n (t .frame .pointer) ≡ agrees r (pointerIn f)
+  compared : (r n : ℕ) → n ≡ r → agrees n (t .frame .pointer) ≡ agrees r (pointerMeaning (pointerIn f))
   compared r n e = ap₂ agrees e pointing
 
   -- the station reads by the case that holds

@@ -10,7 +10,6 @@ use lib.ListN.{length}
 use Rattle.octets.specs.Choice.{if_then_else_}
 use Rattle.octets.proofs.Lists.{if-true, if-false}
 use Rattle.octets.proofs.Decide.{told-false}
-use Rattle.crc.specs.Crc.{crcOf}
 use Rattle.frame.specs.declared.Channel.{Channel}
 use Rattle.packet.specs.Header.{packetOf}
 use Rattle.state.specs.declared.Slot.{Slot}
@@ -19,7 +18,7 @@ use Rattle.state.specs.Slots.{slotAt, complete, incomplete, needOf, ofPair}
 use Rattle.octets.proofs.Tests.{and-left, and-right, and-both}
 use Rattle.room.proofs.Find.{same-pair}
 use Rattle.room.proofs.Keeps.{accepted-held}
-use Rattle.judge.specs.Judge.{dataOf, checkOf, firstSlot, nextSlot, startsFile, goesOn}
+use Rattle.judge.specs.Judge.{dataOf, firstSlot, nextSlot, startsFile, goesOn, isIntact}
 use Rattle.judge.proofs.Parts.{goes-following}
 use Rattle.history.specs.Run.{Call, run, Start, fresh}
 use Rattle.history.specs.Things.{Thing}
@@ -50,7 +49,7 @@ adds-goes x c p e =
     let a = packetOf p .application in
     let st = startsFile (packetOf p) in
     let on = goesOn x (packetOf p) (dataOf p) in
-    let check = eqb (crcOf (dataOf p)) (checkOf p) in
+    let check = isIntact p in
     let file = leb (a .0) 2015 in
     let here = concerns x c p in
     let first = and-left (here && not st) on e in

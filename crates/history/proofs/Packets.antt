@@ -3,7 +3,7 @@ use mathlib.Core.Path.{_≡_, refl, sym, ap, subst, _∙_}
 use mathlib.Core.Bool.{true, and-false}
 use mathlib.Core.Logic.{_⊎_, inl, inr, ⊎-elim}
 use mathlib.Core.List.{List, [], _∷_, _++_, append-assoc}
-use Prim.Native.Nat.{ℕ, zero, suc, _+_, _-_, _*_, _/_, _%_, _≤_, _<_}
+use Prim.Native.Nat.{ℕ, _+_, _-_, _*_, _/_, _%_, _≤_, _<_}
 use native.Mathlib.Omega.{arith}
 use borrow.Author.Tests.{eq-eqb, ne-eqb, le-ltb}
 use lib.ListN.{length, take, drop, set, replicate, length-append, length-replicate, drop-of-length-le}
@@ -12,7 +12,7 @@ use Rattle.octets.specs.Number.{number, numberAt, bitsAt, part}
 use Rattle.octets.specs.Choice.{Decides}
 use Rattle.octets.proofs.Decide.{tells, told-true}
 use Rattle.crc.specs.Crc.{bit, shifted, octet, crcFrom, crcOf}
-use Rattle.crc.proofs.Laws.{crc-append, crcOf-own}
+use Rattle.crc.proofs.Laws.{crcOf-own, crcOf-zeros}
 use Rattle.packet.specs.declared.Packet.{Packet}
 use Rattle.packet.specs.declared.Look.the-variants.{Short, Good}
 use Rattle.packet.specs.Header.{packetOf, sizeOf, bad, lookOf}
@@ -26,7 +26,7 @@ use Rattle.state.specs.Slots.{noFile, held, incomplete, ofPair}
 use Rattle.state.specs.Blocks.{needs}
 use Rattle.room.specs.declared.Found.the-variants.{At, Nothing}
 use Rattle.room.specs.Find.{freeFrom, fileFrom}
-use Rattle.judge.specs.Event.{Event, of, at}
+use Rattle.events.specs.Event.{Event, of, at}
 use Rattle.judge.specs.Judge.{dataOf, checkOf, goesOn}
 use Rattle.judge.specs.Packets.{Undamaged, Starting, Starts, Following}
 use Rattle.judge.proofs.Parts.{right-begun, following-exactly}
@@ -40,18 +40,9 @@ use Rattle.history.proofs.Sending.{cut, ListensOn, MakesOn, BringsOn, t
 use Rattle.history.proofs.Making.{MakesOneOn, MakesOne, makes-fill, makes-other, makes-damaged, makes-wrong, makes-open, makes-refused, makes-over, makes-stray, makes-more, makes-end}
 
 -- data with their check behind their beginning
-crc-zeros : (n : ℕ) → crcFrom 0 (replicate n 0) ≡ 0
-unfolding crcFrom octet shifted bit
-crc-zeros zero = refl
-crc-zeros (suc n) = crc-zeros n
-
 module _ (xs : List ℕ) where
   long-check : crcOf (long xs) ≡ 0
-  unfolding crcOf
-  long-check =
-      let own = xs ++ (crcOf xs / 0x100 ∷ crcOf xs % 0x100 ∷ []) in
-      let zeros = replicate {A = ℕ} (8188 - length xs) 0 in
-      crc-append 0xffff own zeros ∙ ap (λ (c : ℕ). crcFrom c zeros) (crcOf-own xs) ∙ crc-zeros (8188 - length xs)
+  long-check = crcOf-zeros (xs ++ (crcOf xs / 0x100 ∷ crcOf xs % 0x100 ∷ [])) (8188 - length xs) (crcOf-own xs)
 
   pub long-size : length xs ≤ 8188 → length (long xs) ≡ 8190
   long-size l =

@@ -17,7 +17,7 @@ use Rattle.octets.proofs.Lists.{if-true, if-false, drop-take}
 use Rattle.packet.specs.Header.{packetOf}
 use Rattle.transport.specs.declared.Transport.{Transport}
 use Rattle.transport.specs.Length.{transportOf, octetsOfBits, transportSize, need, rest}
-use Rattle.transport.proofs.Length.{need-one, need-covers, rest-sum}
+use Rattle.transport.proofs.Length.{size-sum, need-one, need-covers, rest-sum}
 use Rattle.state.specs.declared.Slot.{Slot}
 use Rattle.state.specs.declared.Station.{Station}
 use Rattle.state.specs.Slots.{slotAt, held, complete, needOf}
@@ -179,27 +179,24 @@ module _ (x : Slot) (bs store : List ℕ) (q : Page) (r : PageRight x bs store q
       omega (arith, joined-length q full some, rest-sum (x .bits), r .count)
 
   page-octets : length bs ≡ needOf x → take (octetsOfBits (x .bits)) (drop 10 (joined store bs)) ≡ carried q
-  unfolding transportSize
   page-octets places =
       let m = octetsOfBits (x .bits) in
       sym (drop-take 10 m (joined store bs))
       ∙ ap (drop 10)
-      (ap (λ (n : ℕ). take n (joined store bs)) (sym page-length)
+      (ap (λ (n : ℕ). take n (joined store bs)) (sym (page-length ∙ size-sum (x .bits)))
       ∙ joined-blocks store q bs (omega (arith, r .count)) full (λ i l. r .blocks i (omega (arith, r .count))))
 
   page-size : length (carried q) ≡ octetsOfBits (x .bits)
-  unfolding transportSize
-  page-size = length-drop 10 (flatten q) ∙ omega (arith, page-length)
+  page-size = length-drop 10 (flatten q) ∙ omega (arith, page-length, size-sum (x .bits))
 
   page-octet : (n : ℕ) → n < octetsOfBits (x .bits) → getD (carried q) n 0 ≡ getD (getD q ((10 + n) / 8190) []) ((10 + n) % 8190) 0
-  unfolding transportSize
   page-octet n l =
       let m = (10 + n) / 8190 in
       let k = (10 + n) % 8190 in
       let cut : 10 + n ≡ 8190 * m + k = omega arith in
       getD-drop 10 (flatten q) n 0 ∙ ap (λ (i : ℕ). getD (flatten q) i 0) cut
       ∙ joined-at q full m k
-      (omega (arith, r .count, need-covers (x .bits)))
+      (omega (arith, r .count, need-covers (x .bits), size-sum (x .bits)))
       (omega arith)
 
 module _ {w : World} (h : SoundWorld w) (k : ℕ) (low : k < 32) (done : complete (slotAt (w .station) k) ≡ true) (q : Page)

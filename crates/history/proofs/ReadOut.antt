@@ -11,15 +11,14 @@ use Rattle.frame.specs.declared.Channel.{Channel}
 use Rattle.packet.specs.declared.Packet.{Packet}
 use Rattle.packet.specs.Header.{packetOf}
 use Rattle.transport.specs.Length.{need}
-use Rattle.frame.specs.Header.{pointerMeaning}
 use Rattle.state.specs.declared.Slot.{Slot}
 use Rattle.state.specs.Slots.{noFile, slotAt, held, complete, incomplete}
-use Rattle.judge.specs.Event.{at}
+use Rattle.events.specs.Event.{at}
 use Rattle.judge.specs.Judge.{dataOf, firstSlot}
 use Rattle.judge.specs.Packets.{Starts}
-use Rattle.zone.specs.Zone.{split, fromPointer}
+use Rattle.zone.specs.Zone.{split}
 use Rattle.zone.specs.Walk.{deskAfter}
-use Rattle.zone.proofs.Readings.{reading-none}
+use Rattle.zone.proofs.Readings.{reading-first}
 use Rattle.station.specs.SetUp.{channelOf}
 use Rattle.history.specs.Run.{Call, run, Start, fresh}
 use Rattle.history.specs.Run.Call.{frame}
@@ -75,7 +74,7 @@ module _ (x : Start) (L l n : ℕ) (p list : List ℕ) (listed : 900 ≤ length 
       (stays (fileAt 5 L 0) going (channelOf 2) (fill n) 0)
 
   came : CameInRun x calls 0 (fileAt 5 L 0)
-  unfolding calls later allThings didAll fromPointer pointerMeaning
+  unfolding calls later allThings didAll
   came =
       let zone = p ++ fill n in
       let w = fresh x in
@@ -88,7 +87,7 @@ module _ (x : Start) (L l n : ℕ) (p list : List ℕ) (listed : 900 ≤ length 
         file = bits L;
         split =
             append-nil (things w (frame (sent 0 0 zone) list))
-            ∙ brings-packets L₀ (omega arith) 0 (inl (omega arith)) zone list size listed zone (reading-none zone 0) (p ∷ fill n ∷ []) [] cuts;
+            ∙ brings-packets L₀ (omega arith) 0 (inl (omega arith)) zone list size listed zone (reading-first zone) (p ∷ fill n ∷ []) [] cuts;
         starts = starts;
         opened = rw (app, opens .from (w .station) (w .store) (L₀ .slots) (L₀ .blocks) .1) (List·Memᴰ·head refl);
         followed = ap (λ (y : Slot). follow 0 y later) file-is ∙ follows;
@@ -106,11 +105,11 @@ module _ (x : Start) (L l n : ℕ) (p list : List ℕ) (listed : 900 ≤ length 
   page = ap (λ (y : Slot). dataOf p ∷ map dataOf (added 0 y later)) file-is ∙ ap (λ (qs : List (List ℕ)). dataOf p ∷ map dataOf qs) only
 
   done : complete (slotAt (run (fresh x) calls .station) 0) ≡ true
-  unfolding calls run complete held fromPointer pointerMeaning
+  unfolding calls run complete held
   done =
       let zone = p ++ fill n in
       let ys = fileAt 5 L 0 ∷ replicate 31 noFile in
-      let (v, t) = step L₀ (omega arith) 0 (inl (omega arith)) zone list size listed zone (reading-none zone 0) (p ∷ fill n ∷ []) [] cuts 1 refl
+      let (v, t) = step L₀ (omega arith) 0 (inl (omega arith)) zone list size listed zone (reading-first zone) (p ∷ fill n ∷ []) [] cuts 1 refl
       (makes-then opens (makes-then (fill-makes n some most ys) (makes-none ys))) in
       ap (λ (zs : List Slot). complete (getD zs 0 noFile)) (v .slots) ∙ rw one
 

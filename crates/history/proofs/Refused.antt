@@ -1,18 +1,23 @@
 -- Every call, on any octets and any state, is answered by one of its numbers; and where that is not 0, nothing changes. Assumes nothing.
-use mathlib.Core.Path.{_≡_, refl, ap}
+use mathlib.Core.Path.{_≡_, refl, sym, ap}
 use mathlib.Core.Bool.{Bool, true, false, not, _||_, false≢true}
 use mathlib.Core.List.{List}
 use Prim.Native.Nat.{ℕ}
 use native.Mathlib.Decide.{ℕ-discrete}
-use Rattle.state.specs.Decision.{goodChannels}
+use Rattle.state.specs.Sound.{Sized}
+use Rattle.state.specs.Decision.{goodChannels, isSound, areDesksSound}
+use Rattle.state.specs.Plainly.{Stray}
+use Rattle.state.proofs.Exactly.{sound-yes}
+use Rattle.state.proofs.Plainly.{stray-refused}
 use Rattle.octets.specs.Reasons.{Reason}
 use Rattle.station.specs.Files.{ReadOutcome}
-use Rattle.station.specs.Frame.{FrameOutcome}
+use Rattle.station.specs.Frame.{FrameOutcome, lentRight}
 use Rattle.station.proofs.Decided.{Outcome}
+use Rattle.station.proofs.Frames.{lent-desks, lent-wrong, unsound, desks-unsound}
 use Rattle.station.proofs.Calls.{frame-outcome, release-outcome, drop-outcome, read-outcome, setUp-outcome, setUp-ten}
 use Rattle.history.specs.Run.{World, Call, answer, after}
 use Rattle.history.specs.Run.Call.{frame, read, release, drop}
-use Rattle.history.specs.Calls.{ByNumber, resultOf, eventCount, Answers, SetsUp}
+use Rattle.history.specs.Calls.{ByNumber, resultOf, eventCount, Answers, ZerosAfter, SetsUp}
 
 by-number : {A : Type 0} {answer : A → ℕ} {rs : List Reason} {d : A} {f : ℕ → A} {r : A} → Outcome answer rs d f r → ByNumber rs (answer r)
 by-number {answer = answer} {r = r} o =
@@ -72,6 +77,28 @@ module _ (w : World) where
               lent = refl;
               events = refl;
             };
+      }
+
+module _ (w : World) (f list : List ℕ) where
+  stray-by : Sized (w .station) → Stray (w .station) (w .desks) → (answer w (frame f list) ≡ 1 → ⊥)
+      → (lent sound desks : Bool) → lentRight (w .station) (w .desks) (w .store) list ≡ lent → isSound (w .station) ≡ sound
+      → areDesksSound (w .station) (w .desks) ≡ desks → answer w (frame f list) ≡ 2
+  unfolding answer areDesksSound
+  stray-by z y other false b c l e d =
+      absurd (other (ap (λ (r : FrameOutcome). r .answer) (sym (lent-wrong (w .station) (w .desks) (w .store) list f l))))
+  stray-by z y other true false c l e d =
+      ap (λ (r : FrameOutcome). r .answer) (sym (unsound (w .station) (w .desks) (w .store) list f l e))
+  stray-by z y other true true false l e d =
+      ap (λ (r : FrameOutcome). r .answer) (sym (desks-unsound (w .station) (w .desks) (w .store) list f l e d))
+  stray-by z y other true true true l e d =
+      absurd (stray-refused z (sound-yes z e) (lent-desks (w .station) (w .desks) (w .store) list l) y d)
+
+  pub zeros-after : ZerosAfter w f list
+  zeros-after =
+      let s = w .station in
+      record {
+        refused =
+            λ z y other. stray-by z y other (lentRight s (w .desks) (w .store) list) (isSound s) (areDesksSound s (w .desks)) refl refl refl;
       }
 
 not-good : (b : Bool) → (not b || false) ≡ true → b ≡ false

@@ -22,7 +22,7 @@ use Rattle.room.specs.Find.{freeSlot, fileOf}
 use Rattle.room.specs.Move.{letGo}
 use Rattle.room.proofs.Find.{free-at, free-nowhere}
 use Rattle.room.proofs.Keeps.{refiled-slot, refiled-sized, letGo-refiles, letGo-sound, letGo-room, accepted-held}
-use Rattle.judge.specs.Event.{of, at, Among}
+use Rattle.events.specs.Event.{of, at, Among}
 use Rattle.judge.specs.Judge.{firstSlot, judged}
 use Rattle.judge.specs.Packets.{Starts}
 use Rattle.judge.specs.Contract.{Watched}

@@ -23,7 +23,7 @@ use Rattle.frame.specs.declared.Pointer.the-variants as pointer
 use Rattle.frame.specs.declared.Watch.the-variants as watch
 use Rattle.frame.specs.Kinds.{counterFollows, deskOf, deskFrom}
 use Rattle.frame.specs.Header.{startsWith, derandomised, frameOf, zoneOf, pointerMeaning}
-use Rattle.frame.specs.Refusals.{framed, examinedHeader}
+use Rattle.frame.specs.Refusals.{sizedAndMarked, examinedHeader}
 use Rattle.frame.proofs.Framing.{is-framed}
 use Rattle.frame.proofs.Pointers.{below-offset, no-start}
 use Rattle.frame.proofs.Answers.{accepted, of-header}
@@ -35,11 +35,11 @@ use Rattle.state.specs.declared.Desk.{Desk}
 use Rattle.state.specs.declared.Slot.{Slot}
 use Rattle.state.specs.declared.Station.{Station}
 use Rattle.state.specs.Slots.{deskAt, emptyDesk}
-use Rattle.judge.specs.Event.{Event}
-use Rattle.zone.specs.Zone.{Split, split, Reading, fromPointer, agrees, reading}
+use Rattle.events.specs.Event.{Event}
+use Rattle.zone.specs.Zone.{Split, split, Reading, agrees, reading}
 use Rattle.zone.specs.Walk.{deskAfter, judgedAll, gap, heldAt, readingOf, withHeld, withDesk, Walked, walked, walkedBy, walkedFrom}
 use Rattle.zone.proofs.Split.{split-part, split-left, unfinished-few}
-use Rattle.zone.proofs.Readings.{Agrees, agrees-exactly, reading-none, reading-on, reading-seamless}
+use Rattle.zone.proofs.Readings.{Agrees, agrees-exactly, reading-first, reading-on, reading-seamless}
 use Rattle.zone.proofs.Walks.{all-stays, all-sized, held-now, walked-from}
 use Rattle.station.specs.SetUp.{channelOf}
 use Rattle.station.specs.Frame.{FrameOutcome, taken, channelAt}
@@ -77,7 +77,7 @@ abbrev headed : ℕ → ℕ → ℕ → Frame
 headed c n p = record { version = 1; spacecraft = 1; channel = channelOf c; counter = record { 0 = n }; pointer = p }
 
 abbrev pub acceptsOn : ℕ → ℕ → ℕ → Accepted
-acceptsOn c n p = record { desk = c; counter = record { 0 = n }; pointer = p }
+acceptsOn c n p = record { desk = c; counter = record { 0 = n }; pointer = pointerMeaning p }
 
 abbrev pub accepts : ℕ → ℕ → Accepted
 accepts n p = acceptsOn 2 n p
@@ -117,7 +117,7 @@ module _ (c n p : ℕ) (zone : List ℕ) (watched : c < 4) (low : n < 256) (poin
       points
 
   module _ (size : length zone ≡ 884) where
-    pub sent-framed : framed (sentOn c n p zone) ≡ true
+    pub sent-framed : sizedAndMarked (sentOn c n p zone) ≡ true
     unfolding startsWith
     sent-framed =
         is-framed (sentOn c n p zone)
@@ -198,7 +198,7 @@ module _ {c : ℕ} {w : World} {n : ℕ} {octets : List ℕ} {xs : List Slot} (L
   unfolding takes
   same = sound-takes (L .sound) (sentOn c n p zone) list good room .1
 
-  module _ (ys : List ℕ) (reads : reading octets zone p ≡ record { events = []; octets = ys }) where
+  module _ (ys : List ℕ) (reads : reading octets zone (pointerMeaning p) ≡ record { events = []; octets = ys }) where
     its-channel : channelAt (w .station) c ≡ channelOf c
     its-channel = ap (λ (cs : List Channel). getD cs c (channelOf 0)) (L .watched) ∙ four-at c (L .named)
 
@@ -206,7 +206,7 @@ module _ {c : ℕ} {w : World} {n : ℕ} {octets : List ℕ} {xs : List Slot} (L
     read-here =
         let s = w .station in
         ap (λ (zs : List ℕ). readingOf s (w .desks) zs (acceptsOn c n p)) (zone-sent c n p zone (L .named) low points size)
-        ∙ reading-seamless s (w .desks) zone (acceptsOn c n p) (L .seamless) ∙ ap (λ (hs : List ℕ). reading hs zone p) (L .holds) ∙ reads
+        ∙ reading-seamless s (w .desks) zone (acceptsOn c n p) (L .seamless) ∙ ap (λ (hs : List ℕ). reading hs zone (pointerMeaning p)) (L .holds) ∙ reads
 
     walks : walked (channelAt (w .station) (takes .frame .desk)) (w .station) (w .desks) (w .store) (zoneOf (derandomised (sentOn c n p zone))) (takes .frame)
         ≡ walkedFrom (channelOf c) (w .station) (w .desks) (w .store) (acceptsOn c n p) [] ys
@@ -290,7 +290,7 @@ abbrev pub Brings : World → List Call → ℕ → List Slot → List Event →
 Brings w cs n ys es = BringsOn 2 w cs n ys es
 
 -- "the pointer must be r if r is below 884, and 2047 otherwise"
-agrees-right : (r : ℕ) → agrees r (if ltb r 884 then r else 2047) ≡ true
+agrees-right : (r : ℕ) → agrees r (pointerMeaning (if ltb r 884 then r else 2047)) ≡ true
 agrees-right r = said-true (agrees-exactly r (if ltb r 884 then r else 2047)) (if-cases (Agrees r) (ltb r 884) (λ e. inl (ltb-true r 884 e, refl)) (λ e. inr (ltb-false r 884 e, refl)))
 
 points-right : (j : ℕ) → Pointing (pointerAt j)
@@ -337,11 +337,11 @@ module _ (n : ℕ) (room : n + 10 ≤ 256) (octets list : List ℕ) (size : leng
 
   -- the packet is carried on
   carried-on : (j : ℕ) → j < 9
-      → reading (front (suc j)) (part (884 * suc j) 884 octets) (pointerAt (suc j)) ≡ record { events = []; octets = front (suc (suc j)) }
+      → reading (front (suc j)) (part (884 * suc j) 884 octets) (pointerMeaning (pointerAt (suc j))) ≡ record { events = []; octets = front (suc (suc j)) }
   carried-on j l =
       let zone = part (884 * suc j) 884 octets in
       let k : sizeOf h - length (front (suc j)) ≡ 8198 - 884 * suc j = omega (arith, front-long (suc j) (omega arith)) in
-      reading-on (front (suc j)) zone (pointerAt (suc j)) (omega (arith, front-long (suc j) (omega arith)))
+      reading-on (front (suc j)) zone (pointerMeaning (pointerAt (suc j))) (omega (arith, front-long (suc j) (omega arith)))
       (ap lookOf (front-next (suc j)) ∙ front-look (suc j) (omega arith))
       (rw k (agrees-right (8198 - 884 * suc j)))
       ∙ ap (λ (zs : List ℕ). record { events = []; octets = zs }) (front-next (suc j))
@@ -367,12 +367,12 @@ module _ (n : ℕ) (room : n + 10 ≤ 256) (octets list : List ℕ) (size : leng
       record { listens = b .listens; tells = rw t (b .tells) }
 
   pub ten-bring : {w : World} → ListensOn c w n [] xs → BringsOn c w (tenFramesOn c n octets list) (n + 10) ys es
-  unfolding run allSaid front fromPointer pointerMeaning
+  unfolding run allSaid front
   ten-bring {w} L =
       let k : n ≡ n + 0 = omega arith in
       let zone = part (884 * 0) 884 octets in
       let (v, t) =
       step (subst (λ (i : ℕ). ListensOn c w i [] xs) k L) (omega arith) 0 (inl (omega arith)) zone list (zone-long 0 (omega arith)) listed
-      zone (reading-none zone 0) [] zone (front-part 0 (omega arith)) (n + 1) (omega arith) (makes-none xs) in
+      zone (reading-first zone) [] zone (front-part 0 (omega arith)) (n + 1) (omega arith) (makes-none xs) in
       let b = carry 8 0 refl (after w (frame (sentOn c (n + 0) 0 zone) list)) v in
       record { listens = b .listens; tells = rw t (b .tells) }

@@ -17,6 +17,7 @@ use Rattle.state.specs.Decision.{isSound, areDesksSound}
 use Rattle.state.proofs.Exactly.{sound-true, desks-true}
 use Rattle.zone.specs.Walk.{walked}
 use Rattle.zone.specs.Contract.{Lent}
+use Rattle.zone.proofs.Readings.{start-within}
 use Rattle.zone.proofs.Walks.{Kept, walked-keeps}
 use Rattle.station.specs.declared.Answered.{Answered}
 use Rattle.octets.specs.Reasons.{Reason}
@@ -69,9 +70,11 @@ module _ {w : World} (h : SoundWorld w) where
         let lent : Lent c s (t .frame) zone (w .desks) (w .store) list =
         record {
           sound = h .sound;
+          owners = h .sized .owner;
           watched = desk-watched s f (t .frame) (t .good);
           desk = taken-low;
           frame = length-zone (derandomised f) (length-derandomised f (good-size _ _ f (t .frame) (t .good)));
+          start = start-within _ _ f (t .frame) (t .good);
           desked = h .desked;
           stored = h .stored;
           listed = taken-list t;

@@ -11,7 +11,6 @@ use lib.Dec.{eqb, leb}
 use Rattle.octets.specs.Choice.{if_then_else_, Decides}
 use Rattle.octets.proofs.Lists.{if-true, if-false, if-cases}
 use Rattle.octets.proofs.Decide.{told-true, tells, decides-same, decides-self, decides-leb, decides-eqb, _and_, decides-or, decides-not}
-use Rattle.crc.specs.Crc.{crcOf}
 use Rattle.frame.specs.declared.Channel.{Channel}
 use Rattle.packet.specs.declared.Packet.{Packet}
 use Rattle.packet.specs.Header.{packetOf}
@@ -23,10 +22,10 @@ use Rattle.room.specs.declared.Found.the-variants.{At}
 use Rattle.room.specs.Find.{fileOf}
 use Rattle.room.proofs.Find.{same-pair, file-at, file-only}
 use Rattle.room.proofs.Keeps.{refiled-slot, refiled-slots, letGo-refiles}
-use Rattle.judge.specs.Event.{Event, at, Among}
-use Rattle.judge.specs.Judge.{Judged, dataOf, checkOf, nextSlot, startsFile, goesOn, judged}
+use Rattle.events.specs.Event.{Event, at, Among}
+use Rattle.judge.specs.Judge.{Judged, dataOf, nextSlot, startsFile, goesOn, judged, nextKind, isIntact}
 use Rattle.judge.specs.Packets.{Undamaged, Starting}
-use Rattle.judge.proofs.Parts.{openEvents, nextKind}
+use Rattle.judge.proofs.Parts.{openEvents}
 use Rattle.judge.proofs.Steps.{about, eventsOf, Unchanged, Opened, Ending, GoneOn, Step, judged-slot}
 use Rattle.judge.proofs.Steps.Step.{same, ended, begun, begun-over, gone-on}
 use Rattle.judge.proofs.Exact.{Given, GoesOn, given-exactly, abandoned-exactly}
@@ -59,7 +58,7 @@ module _ {s : Station} (z : Sized s) (S : Sound s) (c : Channel) (p : List ℕ) 
       (λ (((going, pair), file), intact). (record { file = file; intact = intact }, file-only s c a z S k low going pair))
       (λ (u, f). (((file-at s c a k f .incomplete, file-at s c a k f .pair), u .file), u .intact))
       (decides-self (incomplete (slotAt s k)) and decides-self (ofPair c a (slotAt s k)) and decides-leb (a .0) 2015
-      and decides-self (eqb (crcOf (dataOf p)) (checkOf p)))
+      and decides-self (isIntact p))
 
   -- THE law of event 6: it is decided by the slot and the packet
   pub ends-exactly : Decides (Ending c s p k) (ends (slotAt s k) c p)

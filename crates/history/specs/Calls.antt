@@ -6,8 +6,10 @@ use Prim.Native.Nat.{ℕ, _≤_}
 use lib.ListN.{length}
 use Rattle.octets.specs.Buffer.{put}
 use Rattle.state.specs.Slots.{allZeroState}
+use Rattle.state.specs.Sound.{Sized}
+use Rattle.state.specs.Plainly.{Stray}
 use Rattle.state.specs.Decision.{among}
-use Rattle.judge.specs.Event.{flat}
+use Rattle.events.specs.Event.{flat}
 use Rattle.station.specs.SetUp.{setUpGives, setUp}
 use Rattle.station.specs.Files.{readOut}
 use Rattle.octets.specs.Reasons.{Reason, numbers, applies}
@@ -63,6 +65,10 @@ pub record Answers (w : World) (c : Call) : Type 0 where
   pub lowest : (n : ℕ) → applies (says w c) n ≡ true → (1 ≤ answer w c) × (answer w c ≤ n)
   -- "A refused call changes .."
   pub refused : (answer w c ≡ 0 → ⊥) → NothingChanged w c
+
+-- "2: state not sound": "each desk holds 0 to 8,197 octets, zeros after them". An octet that is not zero there is refused, with any frame
+pub record ZerosAfter (w : World) (f list : List ℕ) : Type 0 where
+  pub refused : Sized (w .station) → Stray (w .station) (w .desks) → (answer w (frame f list) ≡ 1 → ⊥) → answer w (frame f list) ≡ 2
 
 -- set-up, in whose table "10 comes before 1"; "a refused set-up's state is all zero", and its desks stay
 pub record SetsUp (craft : ℕ) (channels desks store : List ℕ) : Type 0 where

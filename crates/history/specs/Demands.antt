@@ -2,18 +2,20 @@
 -- the station with its desks and store; a run is any list of calls; both are functions of what came in (Run.antt). Assumes nothing.
 use mathlib.Core.Path.{_≡_}
 use mathlib.Core.List.{List}
+use mathlib.Core.Logic.{_↔_}
 use Prim.Native.Nat.{ℕ, _≤_}
 use lib.ListN.{length}
 use Rattle.octets.specs.Number.{Octets}
 use Rattle.frame.specs.Header.{derandomised, frameOf, zoneOf}
 use Rattle.frame.specs.Plainly.{Plainly, ZonePlainly}
-use Rattle.packet.specs.Header.{packetOf}
-use Rattle.packet.specs.Plainly.{Plainly as PacketPlainly}
+use Rattle.packet.specs.declared.Look.the-variants.{Bad}
+use Rattle.packet.specs.Header.{packetOf, lookOf}
+use Rattle.packet.specs.Plainly.{Plainly as PacketPlainly, BadPlainly}
 use Rattle.state.specs.declared.Slot.{Slot}
 use Rattle.state.specs.Sound.{Sized}
 use Rattle.history.specs.Run.{World, Call, frameIn, answer, run, Start, fresh, SoundWorld}
 use Rattle.history.specs.Run.Call.{frame}
-use Rattle.history.specs.Calls.{Answers, SetsUp, Told}
+use Rattle.history.specs.Calls.{Answers, ZerosAfter, SetsUp, Told}
 use Rattle.history.specs.Files.{CameInRun, PacketsRight, HeldExactly, CompleteExactly, BlocksHold, FilesCarried, PagesCame, NoStrip}
 use Rattle.history.specs.Sorted.{SortedByChannel, FilesSorted}
 use Rattle.history.specs.Freed.{HeldThen, FreesAtOnce}
@@ -44,6 +46,8 @@ pub record First : Type 0 where
   -- "every call ends, does nothing undefined and answers by the rules paper's numbers. A refused call changes no octet of desks or store,
   -- no slot and no event."
   pub answers : (w : World) (c : Call) → Answers w c
+  -- what a table's test cannot leave out unseen: a desk's octets behind those that it holds
+  pub zeros-after : (w : World) (f list : List ℕ) → ZerosAfter w f list
   pub sets-up : (craft : ℕ) (channels desks store : List ℕ) → SetsUp craft channels desks store
   -- the events of a frame are those of its list, and not too many for it, whatever state was handed back
   pub told : (w : World) (f list : List ℕ) → answer w (frame f list) ≡ 0 → Told w f list
@@ -52,10 +56,11 @@ pub record First : Type 0 where
   pub sound : EveryRun NeverUnsound
 
 pub record Second : Type 0 where
-  -- "Frames are read as .. CCSDS 701.0 and 101.0 define them": header, zone and packet, in their octets as they came
+  -- "Frames are read as .. CCSDS 701.0 and 101.0 define them": header, zone and packet, in their octets as they came, and when a packet's header is bad
   pub header : (f : List ℕ) → length f ≡ 1024 → Octets f → Plainly f (frameOf (derandomised f))
   pub zone : (f : List ℕ) → length f ≡ 1024 → ZonePlainly f (zoneOf (derandomised f))
   pub packet : (p : List ℕ) → 6 ≤ length p → Octets p → PacketPlainly p (packetOf p)
+  pub bad-packet : (p : List ℕ) → 6 ≤ length p → Octets p → (lookOf p ≡ Bad) ↔ BadPlainly p
   -- "derandomised, sorted by channel": a packet is judged under the channel of the frame that brought it; a file's packets came on its channel
   pub sorted : (m : Moment) → SortedByChannel m
   pub files-sorted : OfEveryRun FilesSorted

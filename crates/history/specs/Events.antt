@@ -13,7 +13,7 @@ use Rattle.packet.specs.Header.{packetOf}
 use Rattle.transport.specs.Length.{transportOf, goodLength, octetsOfBits, need}
 use Rattle.state.specs.declared.Station.{Station}
 use Rattle.state.specs.Slots.{slotAt, held, incomplete}
-use Rattle.judge.specs.Event.{Event, Among}
+use Rattle.events.specs.Event.{Event, Among}
 use Rattle.judge.specs.Judge.{dataOf, checkOf, judged}
 use Rattle.judge.specs.Packets.{Undamaged, Starting, Following}
 use Rattle.history.specs.Store.{roomFor}

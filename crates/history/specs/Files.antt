@@ -17,7 +17,7 @@ use Rattle.state.specs.declared.Station.{Station}
 use Rattle.state.specs.Slots.{slotAt, held, complete, needOf}
 use Rattle.state.specs.Blocks.{blocksOf}
 use Rattle.room.specs.File.{blockOctets, fileOctets}
-use Rattle.judge.specs.Event.{at, Among}
+use Rattle.events.specs.Event.{at, Among}
 use Rattle.judge.specs.Judge.{dataOf, firstSlot, nextSlot, judged}
 use Rattle.judge.specs.Packets.{Undamaged, Starting, Starts, Following}
 use Rattle.history.specs.Run.{World, Call, answer, run, Start, fresh}

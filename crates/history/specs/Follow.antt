@@ -5,19 +5,18 @@ use mathlib.Core.List.{List, [], _∷_}
 use Prim.Native.Nat.{ℕ}
 use lib.Dec.{leb, eqb}
 use Rattle.octets.specs.Choice.{if_then_else_}
-use Rattle.crc.specs.Crc.{crcOf}
 use Rattle.frame.specs.declared.Channel.{Channel}
 use Rattle.packet.specs.Header.{packetOf}
 use Rattle.state.specs.declared.Slot.{Slot}
 use Rattle.state.specs.Slots.{incomplete, ofPair}
-use Rattle.judge.specs.Judge.{dataOf, checkOf, nextSlot, startsFile, goesOn}
+use Rattle.judge.specs.Judge.{dataOf, nextSlot, startsFile, goesOn, isIntact}
 use Rattle.history.specs.Things.{Thing}
 use Rattle.history.specs.Things.Thing.{packet, left, gone}
 
 -- the packet came intact, and the slot holds "the file of this channel and application", incomplete
 unfoldable pub concerns : Slot → Channel → List ℕ → Bool
 concerns x c p =
-    incomplete x && ofPair c (packetOf p .application) x && leb (packetOf p .application .0) 2015 && eqb (crcOf (dataOf p)) (checkOf p)
+    incomplete x && ofPair c (packetOf p .application) x && leb (packetOf p .application .0) 2015 && isIntact p
 
 -- event 6: the packet starts another file of the pair, or does not go on with this one
 unfoldable pub ends : Slot → Channel → List ℕ → Bool

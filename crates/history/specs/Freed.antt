@@ -8,7 +8,7 @@ use Rattle.packet.specs.Header.{packetOf}
 use Rattle.state.specs.declared.Station.{Station}
 use Rattle.state.specs.Slots.{slotAt, noFile}
 use Rattle.state.specs.Blocks.{blocksOf, Stands}
-use Rattle.judge.specs.Event.{at, Among}
+use Rattle.events.specs.Event.{at, Among}
 use Rattle.judge.specs.Judge.{judged}
 use Rattle.history.specs.Run.{fresh}
 use Rattle.history.specs.Things.{Thing, allThings}

@@ -15,7 +15,7 @@ use Rattle.records.specs.declared.ImageSegment.the-variants as segment
 use Rattle.records.specs.Reader.{refusedHeader, readHeader}
 use Rattle.state.specs.Slots.{slotAt, complete}
 use Rattle.transport.specs.declared.Transport.{Transport}
-use Rattle.judge.specs.Event.{of, at}
+use Rattle.events.specs.Event.{of, at}
 use Rattle.judge.specs.Packets.{Starts}
 use Rattle.history.specs.Run.{Call, run, Start, fresh}
 use Rattle.history.specs.Run.Call.{frame, release}

@@ -32,15 +32,15 @@ pub record Placed (header : List ℕ) : Type 0 where
 -- "read to their published meaning": no number applies. The records cover the header, each fixed type has its length and is there once at
 -- most (Together); the answer holds the fixed fields, each read at its record; and a record is given by its number, or 27
 pub record ReadToMeaning (file : List ℕ) : Type 0 where
-  pub none : decided (headerSays file) 0 (λ n. n) ≡ 0
-  pub together : Together file
+  pub none : decided (headerSays fixedTypes file) 0 (λ n. n) ≡ 0
+  pub together : Together fixedTypes file
   pub placed : Placed (headerOf file)
   pub fields : readHeader file ≡ fieldsOf (headerOf file)
   pub asked : (n : ℕ) → readRecord file n ≡ nth (records (headerOf file)) n
 
 -- "or refused by number": the first that applies of the table, 20 to 26, and no other result
 pub record RefusedBy (file : List ℕ) (n : ℕ) : Type 0 where
-  pub first : decided (headerSays file) 0 (λ m. m) ≡ n
+  pub first : decided (headerSays fixedTypes file) 0 (λ m. m) ≡ n
   pub range : (20 ≤ n) × (n ≤ 26)
   pub fields : readHeader file ≡ refusedHeader n
   pub asked : (i : ℕ) → readRecord file i ≡ Refused n

@@ -8,7 +8,7 @@ use lib.Dec.{eqb}
 use lib.ListN.{drop}
 use Rattle.octets.specs.Choice.{if_then_else_}
 use Rattle.frame.specs.declared.Channel.{Channel}
-use Rattle.judge.specs.Event.{Event}
+use Rattle.events.specs.Event.{Event}
 use Rattle.station.specs.Frame.{channelAt}
 use Rattle.history.specs.Run as runs
 use Rattle.history.specs.Run.{World, Call, answer, run, Start, fresh}

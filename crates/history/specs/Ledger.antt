@@ -7,7 +7,7 @@ use Prim.Native.Nat.{ℕ}
 use lib.Dec.{eqb}
 use Rattle.octets.specs.Choice.{if_then_else_}
 use Rattle.state.specs.declared.Station.{Station}
-use Rattle.judge.specs.Event.{Event}
+use Rattle.events.specs.Event.{Event}
 use Rattle.judge.specs.Judge.{Judged, dataOf}
 use Rattle.history.specs.Run.{World, Call, after}
 use Rattle.history.specs.Things.{Thing, did, things}

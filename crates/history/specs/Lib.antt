@@ -1,8 +1,7 @@
 -- Every run of the station, and what the demands say of it.
-pub mod Run
-pub mod Things
-pub mod Follow
-pub mod Ledger
+
+-- The demands, one statement, and what they are made of.
+pub mod Demands
 pub mod Calls
 pub mod Files
 pub mod Store
@@ -12,7 +11,12 @@ pub mod Openings
 pub mod Heard
 pub mod Events
 pub mod Headers
-pub mod Demands
+-- What these speak of: a run, and the list of what happened in it.
+pub mod Run
+pub mod Things
+pub mod Follow
+pub mod Ledger
+-- Means: runs of real frames, which show that no demand is empty.
 pub mod Sent
 pub mod Losses
 pub mod Guards

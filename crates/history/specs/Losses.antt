@@ -4,7 +4,7 @@ use mathlib.Core.Path.{_≡_}
 use mathlib.Core.List.{List, [], _∷_, _++_}
 use Prim.Native.Nat.{ℕ, _-_, _≤_}
 use lib.ListN.{length, take, drop, replicate}
-use Rattle.judge.specs.Event.{Event, bare, at}
+use Rattle.events.specs.Event.{Event, bare, at}
 use Rattle.history.specs.Run.{Call, Start, fresh}
 use Rattle.history.specs.Run.Call.{frame}
 use Rattle.history.specs.Sent.{Program, sent, allSaid, fill, whole}

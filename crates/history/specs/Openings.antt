@@ -14,7 +14,7 @@ use Rattle.packet.specs.declared.Packet.{Packet}
 use Rattle.packet.specs.declared.Look.the-variants.{Bad, Good}
 use Rattle.packet.specs.Header.{lookOf, sizeOf}
 use Rattle.state.specs.Slots.{deskAt}
-use Rattle.judge.specs.Event.{Event, bare, Among}
+use Rattle.events.specs.Event.{Event, bare, Among}
 use Rattle.zone.specs.Zone.{Wholes, Unfinished}
 use Rattle.zone.specs.Walk.{heldAt}
 use Rattle.station.specs.Frame.{channelAt}

@@ -6,7 +6,7 @@ use Rattle.state.specs.declared.Station.{Station}
 use Rattle.station.specs.SetUp.{setUp}
 use Rattle.station.specs.Frame.{FrameOutcome, framed}
 use Rattle.station.specs.Files.{released, dropped, readOut}
-use Rattle.station.specs.Answers.{Ready}
+use Rattle.station.specs.Answers.{SoundWithMemory}
 
 -- the station, and the memory that its caller lends it again and again
 pub record World : Type 0 where
@@ -66,4 +66,4 @@ fresh x =
 
 -- a sound state with its memory
 abbrev pub SoundWorld : World → Type 0
-SoundWorld w = Ready (w .station) (w .desks) (w .store)
+SoundWorld w = SoundWithMemory (w .station) (w .desks) (w .store)

@@ -9,7 +9,7 @@ use Rattle.octets.specs.Number.{part}
 use Rattle.crc.specs.Crc.{crcOf}
 use Rattle.noise.specs.Noise.{mixed}
 use Rattle.frame.specs.Header.{marker}
-use Rattle.judge.specs.Event.{Event}
+use Rattle.events.specs.Event.{Event}
 use Rattle.history.specs.Run.{World, Call, after, Start}
 use Rattle.history.specs.Run.Call.{frame}
 use Rattle.history.specs.Things.{said}

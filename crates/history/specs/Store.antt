@@ -15,7 +15,7 @@ use Rattle.state.specs.Blocks.{table, blocksOf, Stands, needs}
 use Rattle.room.specs.declared.Found.{Found}
 use Rattle.room.specs.declared.Found.the-variants.{At, Nothing}
 use Rattle.room.specs.Find.{fileOf}
-use Rattle.judge.specs.Event.{Event, of, at, Among}
+use Rattle.events.specs.Event.{Event, of, at, Among}
 use Rattle.judge.specs.Contract.{Watched, Whole}
 use Rattle.judge.specs.Judge.{firstSlot, judged}
 use Rattle.judge.specs.Packets.{Starts}

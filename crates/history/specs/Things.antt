@@ -15,7 +15,7 @@ use Rattle.frame.specs.Refusals.{examined}
 use Rattle.state.specs.declared.Desk.{Desk}
 use Rattle.state.specs.declared.Station.{Station}
 use Rattle.room.specs.Move.{letGo}
-use Rattle.judge.specs.Event.{Event}
+use Rattle.events.specs.Event.{Event}
 use Rattle.judge.specs.Judge.{Judged, gives, after, judged}
 use Rattle.zone.specs.Zone.{Split, split}
 use Rattle.zone.specs.Walk.{readingOf, withDesk, deskAfter, walked}
