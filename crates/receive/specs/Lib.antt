@@ -1,3 +1,2 @@
--- What the program prints, and how its station goes on.
-pub mod Step
+-- The program. The paper: Told, what it prints.
 pub mod Told

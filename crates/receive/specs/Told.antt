@@ -1,7 +1,8 @@
 -- What the program prints. Assumes nothing.
 use mathlib.Core.List.{List, [], _∷_, _++_}
 use Prim.Native.Nat.{ℕ}
-use Rattle.text.specs.Lines.{spacedThree, newline, eventLines}
+use Rattle.text.specs.Lines.{spacedThree, newline}
+use Rattle.lines.specs.Lines.{eventLines}
 use Rattle.station.specs.Frame.{FrameOutcome}
 
 -- "F, index, answer and event count of a frame; E and the numbers of an event"

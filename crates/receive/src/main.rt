@@ -12,8 +12,8 @@ ghost use mathlib.Core.Path.{_≡_};
 ghost use lib.ListN.{length};
 ghost use Rattle.station.specs.Frame.{framed};
 ghost use Rattle.octets.specs.Buffer.{put};
-ghost use Rattle.text.specs.Lines.{endLine};
-ghost use Rattle.receive.specs.Step.{WentOn};
+ghost use Rattle.lines.specs.Lines.{endLine};
+ghost use Rattle.station.specs.Handed.{WentOn};
 ghost use Rattle.receive.specs.Told.{frameText, outcomeText};
 
 const SPACECRAFT: u8 = 1;
@@ -38,7 +38,7 @@ fn tell(index: u64, answer: u8, events: usize, list: &[u16], out: &mut [u8])
     let letter = text::word(b"F", out, 0);
     let last = text::numbers(index, answer as u64, events as u64, out, letter);
     let head = text::line_end(out, last);
-    let end = text::events(list, events, out, head);
+    let end = lines::events(list, events, out, head);
     io::write_all(STDOUT_FILENO, &out[0..end]);
 }
 
@@ -67,7 +67,7 @@ fn end(frames: u64, left: u64, out: &mut [u8])
     requires { ⌜ length (now out) ≡ 19565 ⌝ }
     ensures { λ _. ⌜ now (out .exit) ≡ put (now (out .entry)) 0 (endLine frames left) ⌝ }
 {
-    let last = text::end_line(frames, left, out, 0);
+    let last = lines::end_line(frames, left, out, 0);
     io::write_all(STDOUT_FILENO, &out[0..last]);
 }
 

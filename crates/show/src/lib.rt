@@ -6,7 +6,7 @@ use state::Desk;
 use state::Slot;
 use state::Station;
 ghost use mathlib.Core.Path.{_≡_};
-ghost use Prim.Native.Nat.{_+_, _*_, _≤_, _<_, min};
+ghost use Prim.Native.Nat.{_+_, _*_, _≤_, _<_};
 ghost use lib.ListN.{length, take};
 ghost use Rattle.octets.specs.Choice.{if_then_else_};
 ghost use Rattle.text.specs.Pieces.{Written};
@@ -146,16 +146,6 @@ fn channel_lines(
     end
 }
 
-// The lesser of a number asked and a number there is.
-pub fn cut_down(asked: u64, most: usize) -> usize
-    ensures { λ r. ⌜ (r ≡ min asked most) × (r ≤ most) ⌝ }
-{
-    if asked <= most as u64 {
-        return asked as usize;
-    }
-    most
-}
-
 // The whole text: the line of the checks, 32 lines of slots with 4,096 block numbers between them at most, and 8 lines of channels.
 pub fn show(s: Station, desks: &[u8], store: &[u8], out: &mut [u8]) -> usize
     requires { ⌜ 90844 ≤ length (now out) ⌝ }
@@ -164,10 +154,10 @@ pub fn show(s: Station, desks: &[u8], store: &[u8], out: &mut [u8]) -> usize
     let head = head_line(desks, store, out);
     let owner = s.owner;
     let slots = s.slots;
-    let blocks = cut_down(s.blocks as u64, Station::MOST_BLOCKS as usize);
+    let blocks = octets::least(s.blocks as usize, Station::MOST_BLOCKS as usize);
     let last = slot_lines(slots, &owner[0..blocks], out, head);
     let watched = s.watched;
     let positions = s.desks;
-    let channels = cut_down(s.channels as u64, Station::MOST_CHANNELS as usize);
+    let channels = octets::least(s.channels as usize, Station::MOST_CHANNELS as usize);
     channel_lines(channels, watched, positions, out, last)
 }

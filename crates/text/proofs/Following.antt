@@ -2,16 +2,15 @@
 use mathlib.Core.Path.{_≡_, refl, sym, ap, _∙_}
 use mathlib.Core.List.{List, [], _∷_, _++_}
 use Prim.Native.Nat.{ℕ, suc, _+_, _-_, _*_, _/_, _%_, _≤_, _<_}
-use native.Mathlib.Nat.{add-zero, add-assoc, sub-zero}
+use native.Mathlib.Nat.{add-zero, add-assoc}
 use native.Mathlib.Numerals.{add-one}
 use native.Mathlib.Omega.{arith}
 use lib.ListN.{length, set, getD, drop, length-append, length-set, drop-of-length-le}
-use lib.Seq.{drop-cons, drop-drop, getD-drop}
+use lib.Seq.{drop-cons}
 use Rattle.io.specs.Digits.{digits, glyph}
 use Rattle.octets.specs.Buffer.{put}
 use Rattle.octets.proofs.Put.{put-put, put-nil, length-put}
 use Rattle.text.specs.Pieces.{Written, inHex}
-use Rattle.text.specs.Lines.{eventLine, eventLines}
 
 pub behind : {before middle after p q : List ℕ} {at between end : ℕ} → Written before at p middle between
     → Written middle between q after end → Written before at (p ++ q) after end
@@ -75,36 +74,3 @@ module _ {s before out : List ℕ} {at end i : ℕ} (g : Spelling s before at ou
   pub spelling-all : length s ≤ i → Written before at (inHex s) out end
   unfolding inHex
   spelling-all h = done (rw (drop-of-length-le s h) at (g .gives))
-
--- the lines of the events that are left, from event i on: its own first
-lines-next : (list : List ℕ) (n i : ℕ) → i < n
-    → eventLines (n - i) (drop (3 * i) list)
-    ≡ (eventLine (getD list (3 * i) 0) (getD list (3 * i + 1) 0) (getD list (3 * i + 2) 0) ++ eventLines (n - (i + 1)) (drop (3 * (i + 1)) list))
-unfolding eventLines
-lines-next list n i h =
-    let left : n - i ≡ suc (n - (i + 1)) = omega arith in
-    let third : 3 * i + 3 ≡ 3 * (i + 1) = omega arith in
-    ap (λ (k : ℕ). eventLines k (drop (3 * i) list)) left ∙ simp (getD-drop, drop-drop, add-zero, third)
-
--- the lines of the first i of n events were written
-pub record Lining (list before : List ℕ) (n at : ℕ) (out : List ℕ) (end i : ℕ) : Type 0 where
-  pub within : i ≤ n
-  pub few : end ≤ at + 65 * i
-  pub room : length out ≡ length before
-  pub gives : Writing before at (eventLines n list) out end (eventLines (n - i) (drop (3 * i) list))
-
-pub lining-none : (list before : List ℕ) (n at : ℕ) → Lining list before n at before at 0
-lining-none list before n at = record { within = omega arith; few = omega arith; room = refl; gives = rw sub-zero (begun before (eventLines n list) at) }
-
-module _ {list before out : List ℕ} {n at end i : ℕ} (g : Lining list before n at out end i) where
-  pub lining-more : {after : List ℕ} {next : ℕ} → i < n → next ≤ end + 65 → length after ≡ length out
-      → Written out end (eventLine (getD list (3 * i) 0) (getD list (3 * i + 1) 0) (getD list (3 * i + 2) 0)) after next
-      → Lining list before n at after next (i + 1)
-  lining-more h few room w =
-      record { within = omega arith; few = omega (arith, g .few); room = room ∙ g .room; gives = went-on (rw (lines-next list n i h) at (g .gives)) w }
-
-  pub lining-all : n ≤ i → Written before at (eventLines n list) out end
-  unfolding eventLines
-  lining-all h =
-      let none : n - i ≡ 0 = omega arith in
-      done (rw none at (g .gives))

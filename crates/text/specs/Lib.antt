@@ -1,3 +1,3 @@
--- Pieces of text, and a piece in a lent buffer.
+-- Pieces of text, and a piece in a lent buffer. All of it is the paper, but for `Written` in Pieces, which is a means.
 pub mod Pieces
 pub mod Lines

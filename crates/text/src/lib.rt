@@ -3,13 +3,9 @@
 //
 // Promises: the buffer after a call is an equation on the whole buffer, and so is the end (specs/Pieces.antt); what follows one another is
 // one piece (proofs/Following.antt). The callers of this crate show that there is room.
-mod lines;
-
-pub use lines::end_line;
-pub use lines::events;
 ghost use Prim.Native.Nat.{_+_, _*_, _^_, _≤_, _<_};
 ghost use mathlib.Core.Path.{_≡_};
-ghost use mathlib.Core.List.{[], _∷_, _++_};
+ghost use mathlib.Core.List.{_++_};
 ghost use lib.ListN.{length};
 ghost use Rattle.io.specs.Digits.{digits as digitsOf, glyph};
 ghost use Rattle.text.specs.Pieces.{decimal as decimalOf, spaced, spacedSigned, inHex, Written};

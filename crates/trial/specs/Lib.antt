@@ -1,5 +1,2 @@
--- The trial script: its commands, the memory that they work on, what each does to it and what each prints.
-pub mod Script
-pub mod World
-pub mod Pokes
-pub mod Told
+-- The payload of a command, as it comes: means.
+pub mod Fetch

@@ -1,26 +1,23 @@
 // A script of commands from standard input, each carried out on a station, and what happened, line by line; docs/TRIAL.md says how.
 //
 // Owns the memory: a desk buffer, a store buffer and a state, of which any octet and any field can be set. Promises: the program is safe and
-// ends; each command changes state, desks and store as specs/World.antt has it, by the station's own definitions, and what it prints is the
-// text of what came of it (specs/Told.antt).
-mod calls;
-mod command;
-mod pokes;
-
-use command::Command;
-use command::Payload;
+// ends; each command changes state, desks and store as the crate `drive` has it, by the station's own definitions.
 use libc::STDIN_FILENO;
 use libc::STDOUT_FILENO;
+use script::Command;
+use script::Payload;
+use script::Run;
 use state::Station;
 ghost use mathlib.Core.Path.{_≡_};
-ghost use Prim.Native.Nat.{_+_, _≤_};
+ghost use Prim.Native.Nat.{_≤_};
 ghost use lib.ListN.{length, take};
 ghost use Rattle.octets.specs.Buffer.{put};
-ghost use Rattle.text.specs.Pieces.{Written};
-ghost use Rattle.text.specs.Lines.{endLine};
-ghost use Rattle.trial.specs.Script.{payloadOf, Fetches};
-ghost use Rattle.trial.specs.World.{world, carriedOut};
-ghost use Rattle.trial.specs.Told.{told};
+ghost use Rattle.lines.specs.Lines.{endLine};
+ghost use Rattle.script.specs.declared.Payload.the-variants.{Octets};
+ghost use Rattle.script.specs.Script.{payloadOf};
+ghost use Rattle.script.specs.Memory.{memory};
+ghost use Rattle.drive.specs.Calls.{carriedOut};
+ghost use Rattle.trial.specs.Fetch.{Fetches};
 
 // The octets of nine desks, and of sixty-five blocks and one more.
 const DESKS: usize = 73782;
@@ -34,64 +31,6 @@ const TEXT: usize = 90844;
 
 // Octets of an input that no run comes to.
 const NEVER: u64 = 0x4000000000000000;
-
-// What the program holds beside its buffers: the state, and how many octets of the desks and of the store are lent to a call.
-pub struct Run {
-    pub station: Station,
-    pub desks: usize,
-    pub store: usize,
-}
-
-// What comes of a command: what the program holds then, and where the text ends that is to be printed.
-pub struct Done {
-    pub run: Run,
-    pub end: usize,
-}
-
-fn finish(run: Run, end: usize) -> Done
-    ensures { λ r. ⌜ r ≡ record { run = run; end = end } ⌝ }
-{
-    Done { run: run, end: end }
-}
-
-// One command. Its text stands at the start of out.
-fn carry_out(
-    w: Run,
-    x: Command,
-    payload: &[u8],
-    desks: &mut [u8],
-    store: &mut [u8],
-    out: &mut [u8],
-) -> Done
-    requires { ⌜ (w .desks ≤ length (now desks)) × (w .store ≤ length (now store)) × (length (now out) ≡ 90844) ⌝ }
-    requires { ⌜ payloadOf x ≡ Payload.Octets (length (now payload)) ⌝ }
-    ensures { λ r. ⌜ world (r .run) (now (desks .exit)) (now (store .exit)) ≡ carriedOut x (now (payload .entry)) (world w (now (desks .entry)) (now (store .entry))) ⌝ }
-    ensures { λ r. ⌜ (r .end ≤ 90844) × Written (now (out .entry)) 0 (told x (now (payload .entry)) (world w (now (desks .entry)) (now (store .entry)))) (now (out .exit)) (r .end) ⌝ }
-{
-    let letter = x.letter;
-    if letter == b'S' {
-        return calls::set_up(w, x, payload, desks, store, out);
-    }
-    if letter == b'F' {
-        return calls::take_frame(w, x, payload, desks, store, out);
-    }
-    if letter == b'R' {
-        let end = calls::read_file(w, x, store, out);
-        return finish(w, end);
-    }
-    if letter == b'L' {
-        return calls::release(w, x, out);
-    }
-    if letter == b'D' {
-        return calls::drop_file(w, x, out);
-    }
-    if letter == b'H' {
-        let end = calls::show_lent(w, desks, store, out);
-        return finish(w, end);
-    }
-    let run = pokes::poke(w, x, desks, store);
-    finish(run, 0)
-}
 
 // How many octets the rest of the input has: it is read to its end.
 fn rest() -> u64
@@ -147,15 +86,14 @@ fn obey(
     out: &mut [u8],
 ) -> Run
     requires { ⌜ (w .desks ≤ length (now desks)) × (w .store ≤ length (now store)) × (length (now out) ≡ 90844) ⌝ }
-    requires { ⌜ (payloadOf x ≡ Payload.Octets k) × (k ≤ length (now payload)) ⌝ }
-    ensures { λ r. ⌜ world r (now (desks .exit)) (now (store .exit)) ≡ carriedOut x (take k (now (payload .entry))) (world w (now (desks .entry)) (now (store .entry))) ⌝ }
+    requires { ⌜ (payloadOf x ≡ Octets k) × (k ≤ length (now payload)) ⌝ }
+    ensures { λ r. ⌜ memory r (now (desks .exit)) (now (store .exit)) ≡ carriedOut x (take k (now (payload .entry))) (memory w (now (desks .entry)) (now (store .entry))) ⌝ }
     ensures { λ r. ⌜ (r .desks ≤ length (now (desks .entry))) × (r .store ≤ length (now (store .entry))) ⌝ }
 {
-    let d = carry_out(w, x, &payload[0..k], desks, store, out);
-    let last = d.end;
+    let r = drive::carry_out(w, x, &payload[0..k], desks, store, out);
+    let last = r.end;
     io::write_all(STDOUT_FILENO, &out[0..last]);
-    let run = d.run;
-    run
+    r
 }
 
 // The last line: how many commands were carried out, and how many octets of the script were not used.
@@ -163,7 +101,7 @@ fn end(n: u64, unused: u64, out: &mut [u8])
     requires { ⌜ length (now out) ≡ 90844 ⌝ }
     ensures { λ _. ⌜ now (out .exit) ≡ put (now (out .entry)) 0 (endLine n unused) ⌝ }
 {
-    let last = text::end_line(n, unused, out, 0);
+    let last = lines::end_line(n, unused, out, 0);
     io::write_all(STDOUT_FILENO, &out[0..last]);
 }
 
@@ -179,6 +117,7 @@ fn follow(desks: &mut [u8], store: &mut [u8], out: &mut [u8])
         station: zero,
         desks: 0,
         store: 0,
+        end: 0,
     };
     let mut n: u64 = 0;
     while n < u64::MAX {

@@ -4,7 +4,8 @@ use borrow.Author.Needs.{needs}
 use Rattle.octets.proofs.Lists.{unmap}
 use Rattle.state.specs.Sound.{Sized}
 use Rattle.station.proofs.Frames.{few-told}
-use Rattle.receive.proofs.Steps.{went-on, told}
+use Rattle.station.proofs.Handed.{went-on}
+use Rattle.receive.proofs.Steps.{told}
 use Rattle.receive.proofs.receive.Statement.{statement}
 use Rattle.receive.proofs.receive.Tie as tie
 

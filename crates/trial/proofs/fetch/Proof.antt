@@ -3,8 +3,8 @@ use mathlib.Core.Path.{sym, subst, _∙_}
 use Prim.Native.Nat.{_≤_}
 use native.Mathlib.Omega.{arith}
 use borrow.Author.Needs.{needs}
-use Rattle.trial.specs.declared.command.Payload.{Payload}
-use Rattle.trial.specs.Script.{countOf}
+use Rattle.script.specs.declared.Payload.{Payload}
+use Rattle.script.specs.Script.{countOf}
 use Rattle.trial.proofs.fetch.Statement.{statement}
 use Rattle.trial.proofs.fetch.Tie as tie
 

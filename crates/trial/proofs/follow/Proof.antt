@@ -1,11 +1,11 @@
 -- `trial::follow` is safe and ends. The measure is the number of commands that are left to count. Assumes nothing.
-use mathlib.Core.Path.{_≡_, refl, subst}
+use mathlib.Core.Path.{_≡_, subst}
 use Prim.Native.Nat.{_-_, _≤_}
 use native.Mathlib.Omega.{arith}
 use borrow.Author.Needs.{needs}
 use lib.ListN.{length}
 use Rattle.trial.specs.declared.Fetched.{Fetched}
-use Rattle.trial.specs.Script.{Fetches}
+use Rattle.trial.specs.Fetch.{Fetches}
 use Rattle.trial.proofs.follow.Statement.{statement}
 use Rattle.trial.proofs.follow.Tie as tie
 

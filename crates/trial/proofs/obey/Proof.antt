@@ -6,9 +6,9 @@ use borrow.Author.Needs.{needs}
 use native.Mathlib.Nat.{sub-zero}
 use lib.ListN.{length, take}
 use lib.Seq.{length-take-le}
-use Rattle.trial.specs.declared.command.Payload.the-variants.{Octets}
-use Rattle.trial.specs.World.{World, world}
-use Rattle.trial.proofs.Letters.{lent-within}
+use Rattle.script.specs.declared.Payload.the-variants.{Octets}
+use Rattle.script.specs.Memory.{Memory, memory}
+use Rattle.drive.proofs.Letters.{lent-within}
 use Rattle.trial.proofs.obey.Statement.{statement}
 use Rattle.trial.proofs.obey.Tie as tie
 
@@ -51,12 +51,12 @@ same-length-3 c = search needs
 
 returns : tie.Need-returns
 returns c =
-    let a = c .before .before .before .before .before .before .before .before .before .before .before .before .before .before .before .before .before .before .before .args in
-    let pre = c .before .before .before .before .before .before .before .before .before .before .before .before .before .before .before .before .before .before .before .pre in
-    let e = rw (sub-zero (a .k)) at (c .before .before .before .before .before .before .before .before .before .before .carry-out .ensures .0) in
-    let within = lent-within (a .x) (take (a .k) (a .payload .now)) (world (a .w) (a .desks .now) (a .store .now)) (pre .0 .0, pre .0 .1) in
-    let desks = ap (λ (o : World). o .desksLent) e in
-    let store = ap (λ (o : World). o .storeLent) e in
+    let a = c .before .before .before .before .before .before .before .before .before .before .before .before .before .before .before .before .before .before .args in
+    let pre = c .before .before .before .before .before .before .before .before .before .before .before .before .before .before .before .before .before .before .pre in
+    let e = rw (sub-zero (a .k)) at (c .before .before .before .before .before .before .before .before .before .carry-out .ensures .0) in
+    let within = lent-within (a .x) (take (a .k) (a .payload .now)) (memory (a .w) (a .desks .now) (a .store .now)) (pre .0 .0, pre .0 .1) in
+    let desks = ap (λ (o : Memory). o .desksLent) e in
+    let store = ap (λ (o : Memory). o .storeLent) e in
     (e, (omega (arith, desks, within .0), omega (arith, store, within .1)))
 
 pub obey-spec : {M : Type 1} → statement M

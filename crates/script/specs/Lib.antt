@@ -1,0 +1,4 @@
+-- The trial script: its commands, the memory that they work on, and what M, P and Q do to it. docs/TRIAL.md stands in place of the paper.
+pub mod Script
+pub mod Pokes
+pub mod Memory
