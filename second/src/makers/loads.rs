@@ -1,11 +1,11 @@
-//! Input of one kind, by which the cost of a frame, or of a decision of soundness, is counted. Asked for
-//! more frames or calls, each only goes on.
+//! Input of one kind, by which the cost of a frame, of a decision of soundness, or of a file let go is
+//! counted. Asked for more frames or calls, each only goes on.
 
 use std::io::Write;
 
 use crate::makers::make::{self, File, PacketFields};
 use crate::makers::script::{Field, Held, Script};
-use crate::model::frame::{Channel, ZONE_SIZE};
+use crate::model::frame::{self, Channel, ZONE_SIZE};
 use crate::model::packet::{Application, Flags};
 use crate::model::transport::{BLOCK_SIZE, HEADER_SIZE};
 
@@ -17,8 +17,15 @@ pub fn run(name: &str, size: usize, out: &mut dyn Write) -> bool {
         "fill" => stream_of(size, |_| make::fill(7)),
         "small" => stream_of(size, small),
         "whole" => stream_of(size, whole),
-        "sound" => judged(size, 1),
-        "unsound" => judged(size, 0),
+        "trial-files" => trial_of(&files(size)),
+        "trial-fill" => trial_of(&stream_of(size, |_| make::fill(7))),
+        "owned" => with_calls(one_file(), size, |script| script.release(32)),
+        "sound" => with_calls(held(4096), size, |script| script.release(32)),
+        "unsound" => with_calls(unsound(), size, |script| script.release(32)),
+        "dropped" => with_calls(held(4096), size, |script| script.drop_file(0)),
+        "sound-64" => with_calls(held(64), size, |script| script.release(32)),
+        "dropped-64" => with_calls(held(64), size, |script| script.drop_file(0)),
+        "abandoned-64" => with_calls(held(64), size, abandoning),
         _ => return false,
     };
     let _ = out.write_all(&octets);
@@ -82,26 +89,73 @@ fn files_of(channel: u8, frames: usize) -> Vec<Vec<u8>> {
     frames_of(channel, frames, |nth| packets[nth].clone())
 }
 
-/// A trial script: 32 incomplete files of 128 blocks each, poked in, and releases of slot 32, which only
-/// judge the state. With no channel the first test of soundness fails, so that nothing else is looked at.
-fn judged(releases: usize, channels: u64) -> Vec<u8> {
+/// A trial script: the same frames to the program's station.
+fn trial_of(frames: &[u8]) -> Vec<u8> {
     let mut script = Script::new();
-    script.fresh(&[0], 1);
-    script.poke(Field::NumberOfBlocks, 0, 4096);
+    script.station();
+    for frame in frames.chunks(frame::SIZE) {
+        script.frame(frame);
+    }
+    script.octets
+}
+
+/// A trial script: 32 incomplete files, poked in, that own all of so many blocks between them. Up to 64
+/// blocks the store is lent as well; with more of them only calls that are not lent it can be made.
+fn held(blocks: u16) -> Script {
+    let mut script = Script::new();
+    script.fresh(&[0], usize::from(blocks.min(64)));
+    script.poke(Field::NumberOfBlocks, 0, u64::from(blocks));
+    let need = blocks / 32;
     for slot in 0..32 {
         script.held(&Held {
             slot,
             channel: 0,
             application: slot,
-            length: (128 * BLOCK_SIZE - HEADER_SIZE) as u64 * 8,
+            length: (usize::from(need) * BLOCK_SIZE - HEADER_SIZE) as u64 * 8,
             count: 0,
             accepted: 1,
-            blocks: (slot * 128..(slot + 1) * 128).collect(),
+            blocks: (slot * need..(slot + 1) * need).collect(),
         });
     }
-    script.poke(Field::NumberOfChannels, 0, channels);
-    for _ in 0..releases {
-        script.release(32);
+    script
+}
+
+/// One incomplete file that owns all of 4,096 blocks.
+fn one_file() -> Script {
+    let mut script = Script::new();
+    script.fresh(&[0], 64);
+    script.poke(Field::NumberOfBlocks, 0, 4096);
+    script.held(&Held {
+        slot: 0,
+        channel: 0,
+        application: 0,
+        length: (4096 * BLOCK_SIZE - HEADER_SIZE) as u64 * 8,
+        count: 0,
+        accepted: 1,
+        blocks: (0..4096).collect(),
+    });
+    script
+}
+
+/// With no channel the first test of soundness fails, so that nothing else is looked at.
+fn unsound() -> Script {
+    let mut script = held(4096);
+    script.poke(Field::NumberOfChannels, 0, 0);
+    script
+}
+
+/// The script, and a call so often. A release of slot 32 only judges the state; a drop also lets a file go.
+fn with_calls(mut script: Script, calls: usize, call: impl Fn(&mut Script)) -> Vec<u8> {
+    for _ in 0..calls {
+        call(&mut script);
     }
     script.octets
+}
+
+/// A frame in which each of the 32 files goes on with a count that does not follow: event 6 for each.
+fn abandoning(script: &mut Script) {
+    let stray =
+        |application| PacketFields::plain(Application(application), Flags::Middle, 0).packet(&[0]);
+    let packets: Vec<Vec<u8>> = (0..32).map(stray).collect();
+    script.filled(0, 0, &packets.concat());
 }

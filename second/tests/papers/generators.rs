@@ -143,8 +143,32 @@ fn a_load_of_frames_only_goes_on_and_all_of_it_is_taken() {
 }
 
 #[test]
+fn a_load_for_trial_has_the_frames_of_the_stream() {
+    for name in ["files", "fill"] {
+        let mut out = Vec::new();
+        program::run(&mut &loaded(name, 11)[..], &mut out);
+        let streamed = String::from_utf8(out).expect("ASCII");
+        let tried = tried(&loaded(&format!("trial-{name}"), 11));
+        let events = |text: &str| text.lines().filter(|line| line.starts_with('E')).count();
+        assert_eq!(events(&tried), events(&streamed), "{name}");
+        let taken = tried.lines().filter(|line| line.starts_with("F 0 "));
+        assert_eq!(taken.count(), 11, "{name}");
+    }
+}
+
+#[test]
+fn a_load_of_files_let_go_lets_them_go() {
+    for name in ["dropped", "dropped-64"] {
+        assert!(tried(&loaded(name, 1)).contains("\nD 0\n"), "{name}");
+    }
+    let out = tried(&loaded("abandoned-64", 1));
+    assert!(out.contains("\nF 0 32\n"));
+    assert_eq!(kinds(&out).filter(|kind| kind == "E 6").count(), 32);
+}
+
+#[test]
 fn a_load_of_releases_is_judged_and_changes_nothing() {
-    for (name, answer) in [("sound", "L 11"), ("unsound", "L 2")] {
+    for (name, answer) in [("sound", "L 11"), ("sound-64", "L 11"), ("unsound", "L 2")] {
         let out = tried(&loaded(name, 3));
         assert_eq!(out.lines().filter(|&line| line == answer).count(), 3);
     }
