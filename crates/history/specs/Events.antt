@@ -4,13 +4,13 @@ use mathlib.Core.Path.{_≡_}
 use mathlib.Core.Bool.{true, false}
 use mathlib.Core.Logic.{_⊎_, _↔_}
 use mathlib.Core.List.{List, [], _∷_}
-use Prim.Native.Nat.{ℕ, _+_, _≤_, _<_}
+use Prim.Native.Nat.{ℕ, _+_, _%_, _≤_, _<_}
 use lib.ListN.{length}
 use Rattle.crc.specs.Crc.{crcOf}
 use Rattle.frame.specs.declared.Channel.{Channel}
 use Rattle.packet.specs.declared.Packet.{Packet}
 use Rattle.packet.specs.Header.{packetOf}
-use Rattle.transport.specs.Length.{transportOf, goodLength, octetsOfBits, need}
+use Rattle.transport.specs.Length.{transportOf, octetsOfBits, need}
 use Rattle.state.specs.declared.Station.{Station}
 use Rattle.state.specs.Slots.{slotAt, held, incomplete}
 use Rattle.events.specs.Event.{Event, Among}
@@ -45,7 +45,8 @@ Shape p =
 -- not "Event 7 if the data is under 10 octets, the 64-bit bit length L .. is 0 or not a multiple of 8, or the shape is wrong"
 pub record WellBegun (p : List ℕ) : Type 0 where
   pub ten : 10 ≤ length (dataOf p)
-  pub bits : goodLength (bitsIn p) ≡ true
+  pub some : bitsIn p ≡ 0 → ⊥
+  pub octets : bitsIn p % 8 ≡ 0
   pub shape : Shape p
 
 -- a slot is free for a packet that starts a file, if it is not held, or held by the older file of the pair, which is abandoned before
