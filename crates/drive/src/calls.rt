@@ -44,7 +44,7 @@ pub fn release(w: Run, x: Command, out: &mut [u8]) -> Run
     ensures { λ r. ⌜ (r .end ≤ 90844) × Written (now (out .entry)) 0 (answerLine 0x4C (released (w .station) (x .b) .answer)) (now (out .exit)) (r .end) ⌝ }
 {
     let mut r = w;
-    let a = station::release(r.station, x.b);
+    let a = files::release(r.station, x.b);
     let after = a.station;
     r.station = after;
     r.end = lines::answer_line(b'L', a.answer, out, 0);
@@ -57,7 +57,7 @@ pub fn drop_file(w: Run, x: Command, out: &mut [u8]) -> Run
     ensures { λ r. ⌜ (r .end ≤ 90844) × Written (now (out .entry)) 0 (answerLine 0x44 (dropped (w .station) (x .b) .answer)) (now (out .exit)) (r .end) ⌝ }
 {
     let mut r = w;
-    let a = station::drop_file(r.station, x.b);
+    let a = files::drop_file(r.station, x.b);
     let left = a.station;
     r.station = left;
     r.end = lines::answer_line(b'D', a.answer, out, 0);
@@ -83,7 +83,7 @@ fn frame_lent(
     ensures { λ r. ⌜ WentOn (framed s (now (desks .entry)) (now (store .entry)) (now (list .entry)) (now (unit .entry))) (r .station) (now (desks .exit)) (now (store .exit)) ⌝ }
     ensures { λ r. ⌜ (r .end ≤ 90844) × Written (now (out .entry)) 0 (framePrinted (framed s (now (desks .entry)) (now (store .entry)) (now (list .entry)) (now (unit .entry)))) (now (out .exit)) (r .end) ⌝ }
 {
-    let f = station::take_frame(s, desks, store, list, unit);
+    let f = reception::take_frame(s, desks, store, list, unit);
     let end = lines::frame_lines(f.answer, f.events, list, out, 0);
     let after = f.station;
     Taken {
@@ -129,30 +129,33 @@ fn read_lent(s: Station, x: Command, store: &[u8], buffer: &mut [u8], out: &mut 
     requires { ⌜ (length (now buffer) ≤ 16384) × (length (now out) ≡ 90844) ⌝ }
     ensures { λ r. ⌜ (r ≤ 90844) × Written (now (out .entry)) 0 (readPrinted (readOut s (now (store .entry)) (x .b) (x .d) (now (buffer .entry)))) (now (out .exit)) r ⌝ }
 {
-    let answer = station::read_file(s, store, x.b, x.d, buffer);
+    let answer = files::read_file(s, store, x.b, x.d, buffer);
     lines::read_line(answer, buffer, out, 0)
 }
 
 // So many octets of a file, into a buffer that is all zero before.
-pub fn read_file(w: Run, x: Command, store: &[u8], out: &mut [u8]) -> usize
+pub fn read_file(w: Run, x: Command, store: &[u8], out: &mut [u8]) -> Run
     requires { ⌜ (w .store ≤ length (now store)) × (length (now out) ≡ 90844) × (x .c ≤ 16384) ⌝ }
-    ensures { λ r. ⌜ r ≤ 90844 ⌝ }
-    ensures { λ r. ⌜ ((desks : List ℕ) → Written (now (out .entry)) 0 (readPrinted (readBy x (memory w desks (now (store .entry))))) (now (out .exit)) r) ⌝ }
+    ensures { λ r. ⌜ ((desks store : List ℕ) → memory r desks store ≡ memory w desks store) ⌝ }
+    ensures { λ r. ⌜ (r .end ≤ 90844) × ((desks : List ℕ) → Written (now (out .entry)) 0 (readPrinted (readBy x (memory w desks (now (store .entry))))) (now (out .exit)) (r .end)) ⌝ }
 {
     let m = w.store;
     let n = x.c as usize;
     let mut buffer = [0u8; 16384];
-    let s = w.station;
-    read_lent(s, x, &store[0..m], &mut buffer[0..n], out)
+    let mut r = w;
+    r.end = read_lent(r.station, x, &store[0..m], &mut buffer[0..n], out);
+    r
 }
 
 // Everything: of the desks and of the store what is lent.
-pub fn show_lent(w: Run, desks: &[u8], store: &[u8], out: &mut [u8]) -> usize
+pub fn show_lent(w: Run, desks: &[u8], store: &[u8], out: &mut [u8]) -> Run
     requires { ⌜ (w .desks ≤ length (now desks)) × (w .store ≤ length (now store)) × (length (now out) ≡ 90844) ⌝ }
-    ensures { λ r. ⌜ (r ≤ 90844) × Written (now (out .entry)) 0 (shownBy (memory w (now (desks .entry)) (now (store .entry)))) (now (out .exit)) r ⌝ }
+    ensures { λ r. ⌜ ((desks store : List ℕ) → memory r desks store ≡ memory w desks store) ⌝ }
+    ensures { λ r. ⌜ (r .end ≤ 90844) × Written (now (out .entry)) 0 (shownBy (memory w (now (desks .entry)) (now (store .entry)))) (now (out .exit)) (r .end) ⌝ }
 {
     let n = w.desks;
     let m = w.store;
-    let s = w.station;
-    show::show(s, &desks[0..n], &store[0..m], out)
+    let mut r = w;
+    r.end = show::show(r.station, &desks[0..n], &store[0..m], out);
+    r
 }

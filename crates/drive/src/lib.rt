@@ -16,15 +16,6 @@ ghost use Rattle.script.specs.Memory.{memory};
 ghost use Rattle.drive.specs.Calls.{carriedOut};
 ghost use Rattle.drive.specs.Printed.{printed};
 
-// What is held, with a text that ends there.
-fn ended(w: Run, end: usize) -> Run
-    ensures { λ r. ⌜ r ≡ record { station = w .station; desks = w .desks; store = w .store; end = end } ⌝ }
-{
-    let mut r = w;
-    r.end = end;
-    r
-}
-
 // One command. Its text stands at the start of out.
 pub fn carry_out(
     w: Run,
@@ -47,8 +38,7 @@ pub fn carry_out(
         return calls::take_frame(w, x, payload, desks, store, out);
     }
     if letter == b'R' {
-        let end = calls::read_file(w, x, store, out);
-        return ended(w, end);
+        return calls::read_file(w, x, store, out);
     }
     if letter == b'L' {
         return calls::release(w, x, out);
@@ -57,8 +47,7 @@ pub fn carry_out(
         return calls::drop_file(w, x, out);
     }
     if letter == b'H' {
-        let end = calls::show_lent(w, desks, store, out);
-        return ended(w, end);
+        return calls::show_lent(w, desks, store, out);
     }
     script::poke(w, x, desks, store)
 }

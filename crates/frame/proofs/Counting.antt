@@ -1,14 +1,9 @@
 -- Frame counters run modulo 2^24. Assumes nothing.
 use mathlib.Core.Path.{_≡_, ap}
 use mathlib.Core.Bool.{true}
-use Prim.Native.Nat.{_<_}
-use native.Mathlib.Omega.{arith}
 use borrow.Author.Tests.{eq-eqb, eqb-true}
 use Rattle.frame.specs.declared.Counter.{Counter}
 use Rattle.frame.specs.Kinds.{nextCounter, counterFollows}
-
-pub next-below : (c : Counter) → nextCounter c .0 < 0x1000000
-next-below c = omega arith
 
 pub follows-next : (last c : Counter) → counterFollows last c ≡ true → c ≡ nextCounter last
 unfolding counterFollows

@@ -80,10 +80,6 @@ module _ (c d : Channel) where
         let z : s .0 ≡ i = omega (arith, s .1) in
         rw z at (s .2)
 
-    pub desk-none : deskOf ws c ≡ NotWatched → Nowhere c d ws
-    unfolding deskOf
-    desk-none e = missed 0 ws e
-
     pub at-desk : (i : ℕ) → Stands c d ws i → deskOf ws c ≡ Desk i
     unfolding deskOf
     at-desk i s =

@@ -34,9 +34,6 @@ means p =
     if-cases (Means p) (ltb p 884) (λ h. (refl, ltb-true p 884 h))
     (λ h. if-cases (Means p) (eqb p 2047) (eqb-true p 2047) (λ n. (ltb-false p 884 h, eqb-false p 2047 n)))
 
-pub meaning-is : (p : ℕ) (m : Pointer) → pointerMeaning p ≡ m → Means p m
-meaning-is p m e = rw e at (means p)
-
 -- a pointer that is not refused is an offset in the zone, or says that no packet starts
 pub allowed-pointer : (p : ℕ) → (pointerMeaning p ≡ Refused → ⊥) → (p < 884) ⊎ (p ≡ 2047)
 allowed-pointer p n = go (pointerMeaning p) n (means p)

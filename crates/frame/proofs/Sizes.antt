@@ -6,12 +6,10 @@ use native.Mathlib.Omega.{arith}
 use lib.ListN.{length, drop, length-drop}
 use lib.Seq.{take-all}
 use Rattle.octets.specs.Number.{part}
-use Rattle.octets.proofs.Lists.{whole-part, if-cases}
+use Rattle.octets.proofs.Lists.{whole-part}
 use Rattle.noise.specs.Noise.{mixed}
 use Rattle.noise.proofs.Mixing.{length-mixed}
 use Rattle.frame.specs.Header.{derandomised, zoneOf}
-use Rattle.frame.specs.Refusals.{sizedAndMarked, plainAfter}
-use Rattle.frame.proofs.Framing.{framed-is}
 
 -- what is coded is all that stands behind the marker
 pub coded : (f : List ℕ) → length f ≡ 1024 → mixed (part 4 1020 f) ≡ derandomised f
@@ -25,8 +23,3 @@ length-derandomised f h = length-mixed (drop 4 f) ∙ omega (arith, length-drop 
 pub length-zone : (plain : List ℕ) → length plain ≡ 1020 → length (zoneOf plain) ≡ 884
 unfolding zoneOf
 length-zone plain h = whole-part plain 8 884 (omega arith)
-
-pub length-plain : (f before : List ℕ) → length before ≡ 1020 → length (plainAfter f before) ≡ 1020
-unfolding plainAfter
-length-plain f before h =
-    if-cases (λ (xs : List ℕ). length xs ≡ 1020) (sizedAndMarked f) (λ e. length-derandomised f (framed-is f e .0)) (λ e. h)

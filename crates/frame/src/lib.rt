@@ -1,14 +1,13 @@
 // The frame as it comes off the dish: a channel access unit of 1,024 octets.
 //
-// Owns the frame's sizes and marker, the kinds Channel and Counter, the header, the meaning of the pointer, and refusals 3 to 9.
-// Promises: header fields stand at the bit positions of the paper; any octets of any number are examined, and the answer is the lowest
-// refusal that applies, or where to go on reading.
+// Owns the frame's sizes and marker, the kinds Channel and Counter, the header, the meaning of the pointer, what refusals 3 to 9 mean, and the
+// laws of them; the refusals themselves are found by `examine`. Promises: header fields stand at the bit positions of the paper; a pointer means
+// what it says, and a channel's desk is its place among those watched.
 ghost use mathlib.Core.Path.{_≡_};
-ghost use Prim.Native.Nat.{_+_, _≤_, _<_};
+ghost use Prim.Native.Nat.{_≤_};
 ghost use lib.ListN.{length, take};
 ghost use Rattle.frame.specs.Kinds.{checkedChannel, checkedCounter, nextCounter, counterFollows, deskOf};
-ghost use Rattle.frame.specs.Header.{marker, startsWith, frameOf, Bounded, pointerMeaning};
-ghost use Rattle.frame.specs.Refusals.{examinedHeader, examined, plainAfter};
+ghost use Rattle.frame.specs.Header.{frameOf, Bounded, pointerMeaning};
 
 // A channel number. It cannot stand for an application number, nor the other way round.
 pub struct Channel(pub u8);
@@ -179,81 +178,4 @@ pub struct Accepted {
 pub enum Examined {
     Refused(u8),
     Good(Accepted),
-}
-
-// Refusals 5 to 9, from the header.
-pub fn examine_header(
-    h: Frame,
-    spacecraft: u8,
-    watched: [Channel; Channel::MOST],
-    n: u8,
-) -> Examined
-    requires { ⌜ n ≤ 8 ⌝ }
-    ensures { λ r. ⌜ r ≡ examinedHeader spacecraft (take n watched) h ⌝ }
-{
-    if h.version != Frame::VERSION {
-        return Examined::Refused(5);
-    }
-    if h.spacecraft != spacecraft {
-        return Examined::Refused(6);
-    }
-    let channel = h.channel;
-    if channel.0 == Channel::FILL {
-        return Examined::Refused(7);
-    }
-    let w = desk_of(watched, n, channel);
-    let Watch::Desk(desk) = w else {
-        return Examined::Refused(8);
-    };
-    let p = meaning(h.pointer);
-    if let Pointer::Refused = p {
-        return Examined::Refused(9);
-    }
-    let counter = h.counter;
-    Examined::Good(Accepted {
-        desk: desk,
-        counter: counter,
-        pointer: p,
-    })
-}
-
-// Whether a frame begins with the marker.
-fn marked(frame: &[u8]) -> bool
-    requires { ⌜ 4 ≤ length (now frame) ⌝ }
-    ensures { λ r. ⌜ r ≡ startsWith marker (now (frame .entry)) ⌝ }
-{
-    let m = Frame::MARKER;
-    if frame[0] != m[0] {
-        return false;
-    }
-    if frame[1] != m[1] {
-        return false;
-    }
-    if frame[2] != m[2] {
-        return false;
-    }
-    frame[3] == m[3]
-}
-
-// Refusals 3 to 9. The scratch octets hold the derandomised frame afterwards, if it has its size and its marker.
-pub fn examine(
-    frame: &[u8],
-    plain: &mut [u8],
-    spacecraft: u8,
-    watched: [Channel; Channel::MOST],
-    n: u8,
-) -> Examined
-    requires { ⌜ (length (now plain) ≡ 1020) × (n ≤ 8) ⌝ }
-    ensures { λ r. ⌜ r ≡ examined spacecraft (take n watched) (now (frame .entry)) ⌝ }
-    ensures { λ _. ⌜ now (plain .exit) ≡ plainAfter (now (frame .entry)) (now (plain .entry)) ⌝ }
-{
-    if frame.len() != Frame::SIZE {
-        return Examined::Refused(3);
-    }
-    if !marked(frame) {
-        return Examined::Refused(4);
-    }
-    noise::mix(&frame[Frame::CODED_AT..Frame::SIZE], plain);
-    let h = Frame::read(plain);
-    examine_header(h, spacecraft, watched, n)
 }

@@ -3,13 +3,13 @@ use mathlib.Core.Path.{_≡_, refl, sym, ap, subst, _∙_}
 use mathlib.Core.Bool.{Bool, true, false, true≢false}
 use mathlib.Core.Logic.{_↔_, inl, inr, ⊎-elim}
 use mathlib.Core.List.{List, [], _∷_, List·Memᴰ·not-nil, List·Memᴰ·cases-cons, List·Memᴰ·eq-of-singleton}
-use Prim.Native.Nat.{ℕ, _≤_, _<_, _%_}
+use Prim.Native.Nat.{ℕ, _≤_, _<_}
 use native.Mathlib.Decide.{ℕ-discrete, decLt}
 use native.Mathlib.Omega.{arith}
 use borrow.Author.Tests.{ne-eqb, eqb-false, not-true}
 use lib.Dec.{eqb}
-use Rattle.octets.specs.Choice.{if_then_else_, Decides}
-use Rattle.octets.proofs.Decide.{told-true, told-false, tells, decides-eqb, decides-not, _and_}
+use Rattle.octets.specs.Choice.{if_then_else_}
+use Rattle.octets.proofs.Decide.{told-true, told-false, tells, decides-not}
 use Rattle.crc.specs.Crc.{crcOf}
 use Rattle.frame.specs.declared.Channel.{Channel}
 use Rattle.packet.specs.declared.Packet.{Packet}
@@ -18,9 +18,9 @@ use Rattle.packet.proofs.Looks.{look-good}
 use Rattle.transport.specs.declared.Begun.{Begun}
 use Rattle.transport.specs.declared.Begun.the-variants.{Wrong, Right}
 use Rattle.transport.specs.declared.Transport.{Transport}
-use Rattle.transport.specs.Length.{transportOf, goodLength, need}
+use Rattle.transport.specs.Length.{transportOf, need}
 use Rattle.transport.specs.Shape.{begunOf}
-use Rattle.transport.proofs.Length.{size-sum, need-covers}
+use Rattle.transport.proofs.Length.{length-plainly, size-sum, need-covers}
 use Rattle.state.specs.declared.Station.{Station}
 use Rattle.state.specs.Slots.{slotAt, held}
 use Rattle.state.specs.Blocks.{room}
@@ -51,11 +51,6 @@ use Rattle.history.proofs.Turns.{none-held}
 
 same-slot : {j k : ℕ} → At j ≡ At k → j ≡ k
 same-slot e = cc
-
--- which lengths a file can have, in the paper's words: the one place outside transport that looks at the test for it
-length-plainly : (L : ℕ) → Decides ((L ≡ 0 → ⊥) × (L % 8 ≡ 0)) (goodLength L)
-unfolding goodLength
-length-plainly L = decides-not (decides-eqb L 0) and decides-eqb (L % 8) 0
 
 -- what the packet alone says
 module _ (p : List ℕ) where

@@ -42,19 +42,25 @@ joined-at (e ∷ d ∷ q) f (suc m) r l h =
     ap (λ (i : ℕ). getD (e ++ flatten (d ∷ q)) i 0) n ∙ getD-append-add e (flatten (d ∷ q)) (8190 * m + r) 0
     ∙ joined-at (d ∷ q) (full-tail e (d ∷ q) f) m r (omega arith) h
 
+-- stretches of at most n octets that begin with them: over any n, since 8,190 would be written out
+begun : (n : ℕ) (g : ℕ → List ℕ) → ((b : ℕ) → take n (g b) ≡ g b) → (q : List (List ℕ)) (bs : List ℕ) → length bs ≡ length q
+    → ((i : ℕ) → i + 1 < length q → length (getD q i []) ≡ n)
+    → ((i : ℕ) → i < length q → take (length (getD q i [])) (g (getD bs i 0)) ≡ getD q i [])
+    → take (length (flatten q)) (flatMap g bs) ≡ flatten q
+unfolding flatten flatMap
+begun n g w [] bs e f t = refl
+begun n g w (x ∷ q) [] e f t = absurd (omega arith)
+begun n g w (x ∷ []) (b ∷ []) e f t = rw (append-nil x, append-nil (g b)) (t 0 (omega arith))
+begun n g w (x ∷ []) (b ∷ c ∷ bs) e f t = absurd (omega arith)
+begun n g w (x ∷ y ∷ q) (b ∷ bs) e f t =
+    let here : g b ≡ x = sym (w b) ∙ ap (λ (i : ℕ). take i (g b)) (sym (f 0 (omega arith))) ∙ t 0 (omega arith) in
+    rw (here, length-append x (flatten (y ∷ q)), take-append-add x)
+    (ap (λ (ys : List ℕ). x ++ ys)
+    (begun n g w (y ∷ q) bs (omega arith) (λ i l. f (suc i) (omega arith)) (λ i l. t (suc i) (omega arith))))
+
 -- blocks that begin with them
 pub joined-blocks : (store : List ℕ) (q : List (List ℕ)) (bs : List ℕ) → length bs ≡ length q → Full q
     → ((i : ℕ) → i < length q → take (length (getD q i [])) (blockOctets store (getD bs i 0)) ≡ getD q i [])
     → take (length (flatten q)) (joined store bs) ≡ flatten q
-unfolding flatten joined flatMap
-joined-blocks store [] bs e f t = refl
-joined-blocks store (x ∷ q) [] e f t = absurd (omega arith)
-joined-blocks store (x ∷ []) (b ∷ []) e f t = rw (append-nil x, append-nil (blockOctets store b)) (t 0 (omega arith))
-joined-blocks store (x ∷ []) (b ∷ c ∷ bs) e f t = absurd (omega arith)
-joined-blocks store (x ∷ y ∷ q) (b ∷ bs) e f t =
-    let n : length x ≡ 8190 = f 0 (omega arith) in
-    let here : blockOctets store b ≡ x =
-    sym (take-take 8190 8190 (drop (8190 * b) store) (omega arith)) ∙ ap (λ (i : ℕ). take i (blockOctets store b)) (sym n)
-    ∙ t 0 (omega arith) in
-    rw (here, length-append x (flatten (y ∷ q)), take-append-add x)
-    (ap (λ (ys : List ℕ). x ++ ys) (joined-blocks store (y ∷ q) bs (omega arith) (full-tail x (y ∷ q) f) (λ i l. t (suc i) (omega arith))))
+unfolding joined
+joined-blocks store = begun 8190 (blockOctets store) (λ b. take-take 8190 8190 (drop (8190 * b) store) (omega arith))

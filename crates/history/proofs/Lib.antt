@@ -1,4 +1,4 @@
--- What holds along every run: the demands (All), and that their premises are met by runs that can be written down (Guards).
+-- What holds along every run: the demands (All), and what their proofs are made of.
 pub mod Framing
 pub mod Refused
 pub mod Sound
@@ -20,9 +20,3 @@ pub mod Channels
 pub mod Events
 pub mod Headers
 pub mod All
-pub mod Sending
-pub mod Making
-pub mod Packets
-pub mod ReadOut
-pub mod Losses
-pub mod Guards

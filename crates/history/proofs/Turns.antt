@@ -131,10 +131,6 @@ module _ (k : ℕ) (d : List ℕ) (q : Page) where
   unfolding noted told
   noted-none = refl
 
-  noted-ended : (a : ℕ) → noted k d (at 6 a k ∷ []) q ≡ []
-  unfolding noted told
-  noted-ended a = rw (eq-eqb k k refl)
-
   noted-open : (h : Packet) → noted k d (openEvents h k) q ≡ d ∷ []
   unfolding noted told
   noted-open h = rw (eq-eqb k k refl)
@@ -146,7 +142,8 @@ module _ (k : ℕ) (d : List ℕ) (q : Page) where
   noted-next : (a : ℕ) (h : Packet) → noted k d (at (nextKind h) a k ∷ []) q ≡ q ++ (d ∷ [])
   unfolding noted told
   noted-next a h =
-      if-cases (λ (n : ℕ). noted k d (at n a k ∷ []) q ≡ q ++ (d ∷ [])) (eqb (h .flags) 2) (λ e. rw (eq-eqb k k refl)) (λ e. rw (eq-eqb k k refl))
+      if-cases (λ (n : ℕ). noted k d (at n a k ∷ []) q ≡ q ++ (d ∷ [])) (eqb (h .flags) 2) (λ e. rw (eq-eqb k k refl) refl)
+      (λ e. rw (eq-eqb k k refl) refl)
 
 pub none-held : held noFile ≡ false
 unfolding held

@@ -16,7 +16,3 @@ pub mod Run
 pub mod Things
 pub mod Follow
 pub mod Ledger
--- Means: runs of real frames, which show that no demand is empty.
-pub mod Sent
-pub mod Losses
-pub mod Guards

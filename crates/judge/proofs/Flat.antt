@@ -11,6 +11,11 @@ use Rattle.state.specs.declared.Station.{Station}
 use Rattle.judge.specs.Judge.{Judged, gives, after}
 use Rattle.judge.specs.Contract.{Tells}
 
+-- the same outcome in other words
+pub tells-as : {j i : Judged} {n m : ℕ} {list₀ list store : List ℕ} {t : Station} → j ≡ i → Tells i n list₀ t m store list
+    → Tells j n list₀ t m store list
+tells-as e t = rw e t
+
 module _ {n : ℕ} {list₀ list : List ℕ} where
   -- what is promised behind some events is promised with them
   pub tells-after : (es : List Event) {j : Judged} {t : Station} {m : ℕ} {store : List ℕ}

@@ -7,7 +7,5 @@ pub mod Keeps
 pub mod Most
 pub mod Steps
 pub mod Exact
-pub mod Writing
 pub mod Rulings
-pub mod Finding
-pub mod Telling
+pub mod Reading

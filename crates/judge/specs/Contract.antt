@@ -1,4 +1,4 @@
--- What the functions of this crate ask and promise, in one form for all. Assumes nothing.
+-- What the functions that decide about a packet and those that do what was decided (`act`) ask and promise, in one form for all. Assumes nothing.
 use mathlib.Core.Path.{_≡_}
 use mathlib.Core.List.{List}
 use Prim.Native.Nat.{ℕ, _+_, _*_, _≤_, _<_}

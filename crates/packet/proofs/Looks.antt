@@ -1,6 +1,6 @@
 -- What a look at some octets tells: that there are too few, that the header is bad, or all that is known of a good one; and that only the
 -- first six octets are looked at. Assumes nothing.
-use mathlib.Core.Path.{_≡_, refl, sym, subst}
+use mathlib.Core.Path.{_≡_, refl, subst}
 use mathlib.Core.Bool.{Bool, true, false}
 use mathlib.Core.List.{List, _++_}
 use mathlib.Core.Logic.{_⊎_, inl, inr}
@@ -9,7 +9,7 @@ use native.Mathlib.Omega.{arith}
 use borrow.Author.Tests.{ltb-true, ltb-false, le-ltb}
 use lib.Dec.{ltb}
 use lib.ListN.{length, take, length-append}
-use lib.Seq.{length-take-le, take-take, take-append-le}
+use lib.Seq.{take-append-le}
 use Rattle.octets.specs.Choice.{if_then_else_, Decides}
 use Rattle.octets.proofs.Decide.{told-false, decides-same, decides-leb, decides-ltb, decides-eqb, decides-not, decides-or, _and_}
 use Rattle.packet.specs.declared.Packet.{Packet}
@@ -87,9 +87,6 @@ look-bad xs h b = rw (le-ltb _ _ h, b)
 pub look-same : (xs ys : List ℕ) → 6 ≤ length xs → 6 ≤ length ys → take 6 xs ≡ take 6 ys → lookOf xs ≡ lookOf ys
 unfolding lookOf packetOf
 look-same xs ys h k e = rw (le-ltb _ _ h, le-ltb _ _ k, e)
-
-pub look-six : (xs : List ℕ) → 6 ≤ length xs → lookOf xs ≡ lookOf (take 6 xs)
-look-six xs h = look-same xs (take 6 xs) h (omega (arith, length-take-le 6 xs h)) (sym (take-take 6 6 xs (omega arith)))
 
 pub look-append : (xs ys : List ℕ) → 6 ≤ length xs → lookOf (xs ++ ys) ≡ lookOf xs
 look-append xs ys h = look-same (xs ++ ys) xs (omega (arith, length-append xs ys)) h (take-append-le 6 xs ys h)

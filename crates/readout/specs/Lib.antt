@@ -1,3 +1,2 @@
--- The text of what the readers of headers answer. docs/VECTORS.md, in place of the paper: Heads and Readout, all of both. No means.
-pub mod Heads
+-- The text of what the reader of header records answers. docs/VECTORS.md, in place of the paper: Readout, all of it. No means.
 pub mod Readout

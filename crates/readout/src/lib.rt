@@ -1,11 +1,7 @@
-// What the readers of headers answer, as text: the header of a frame, that of a packet, and the header records of a file.
+// What the readers of a file's header records answer, as text.
 //
-// Owns the answers to the questions `F`, `P`, `H` and `R` of docs/VECTORS.md. Promises: the text is an equation over what the readers'
-// contracts say (specs/Heads.antt, specs/Readout.antt).
-mod heads;
-
-pub use heads::frame_answer;
-pub use heads::packet_answer;
+// Owns the answers to the questions `H` and `R` of docs/VECTORS.md. Promises: the text is an equation over what the readers' contracts say
+// (specs/Readout.antt).
 use records::Header;
 use records::HeaderRead;
 use records::ImageNavigation;
@@ -159,7 +155,7 @@ pub fn header_answer(q: &[u8], out: &mut [u8]) -> usize
     requires { ⌜ length (now out) ≡ 2051 ⌝ }
     ensures { λ r. ⌜ (r ≤ 2050) × Written (now (out .entry)) 0 (headerText (readHeader (now (q .entry)))) (now (out .exit)) r ⌝ }
 {
-    let a = records::read_header(q);
+    let a = fields::read_header(q);
     let read = a.read;
     match read {
         HeaderRead::Refused(n) => {
@@ -177,7 +173,7 @@ pub fn record_answer(q: &[u8], out: &mut [u8]) -> usize
     ensures { λ r. ⌜ (r ≤ 2050) × Written (now (out .entry)) 0 (recordText (readRecord (drop 2 (now (q .entry))) (numberAt (now (q .entry)) 0 2))) (now (out .exit)) r ⌝ }
 {
     let n = octets::u16_at(q, 0) as usize;
-    let a = records::read_record(&q[2..], n);
+    let a = header::read_record(&q[2..], n);
     match a {
         RecordAnswer::Refused(number) => {
             return text::with_number(b"R", number as u64, out, 0);

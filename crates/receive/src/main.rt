@@ -56,7 +56,7 @@ fn receive(
     ensures { λ r. ⌜ WentOn (framed s (now (desks .entry)) (now (store .entry)) (now (list .entry)) (now (unit .entry))) r (now (desks .exit)) (now (store .exit)) ⌝ }
     ensures { λ _. ⌜ now (out .exit) ≡ put (now (out .entry)) 0 (outcomeText index (framed s (now (desks .entry)) (now (store .entry)) (now (list .entry)) (now (unit .entry)))) ⌝ }
 {
-    let f = station::take_frame(s, desks, store, list, unit);
+    let f = reception::take_frame(s, desks, store, list, unit);
     tell(index, f.answer, f.events, list, out);
     let after = f.station;
     after

@@ -1,5 +1,5 @@
 -- The record that 23 refuses, by its three reasons, and where the next one begins. Assumes nothing.
-use mathlib.Core.Path.{_≡_, refl}
+use mathlib.Core.Path.{_≡_, refl, ap, _∙_}
 use mathlib.Core.Bool.{Bool, true, false, _||_, or-true, true≢false}
 use Prim.Native.Nat.{ℕ, _+_, _≤_, _<_}
 use native.Mathlib.Omega.{arith}
@@ -20,7 +20,9 @@ module _ (end : ℕ) (r : Record) where
 
   pub cut-past : end < r .place + r .length → isCut end r ≡ true
   unfolding isCut
-  cut-past h = rw (lt-ltb end (r .place + r .length) h, or-true)
+  cut-past h =
+      ap (λ (past : Bool). ltb (r .length) 3 || past || ltb end (r .place + 3)) (lt-ltb end (r .place + r .length) h)
+      ∙ rw or-true
 
   pub cut-left : end < r .place + 3 → isCut end r ≡ true
   unfolding isCut

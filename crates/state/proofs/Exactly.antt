@@ -1,6 +1,6 @@
 -- The tests of soundness answer true exactly if the state is sound, clause by clause. Assumes nothing.
 use mathlib.Core.Path.{_≡_, refl, sym, ap, subst, _∙_}
-use mathlib.Core.Bool.{Bool, true, false, true≢false}
+use mathlib.Core.Bool.{Bool, true, false, _&&_, true≢false}
 use mathlib.Core.List.{List, [], _∷_}
 use Prim.Native.Nat.{ℕ, zero, suc, _+_, _-_, _*_, _≤_, _<_}
 use native.Mathlib.Nat.{add-zero, zero-add, add-suc, suc-add}
@@ -19,6 +19,8 @@ use Rattle.octets.proofs.Each.{decides-each}
 use Rattle.octets.proofs.Lists.{whole-part}
 use Rattle.octets.proofs.Tests.{true-unless}
 use Rattle.octets.proofs.Zero.{all-blank, blank-at}
+use Rattle.frame.specs.declared.Channel.{Channel}
+use Rattle.packet.specs.declared.Application.{Application}
 use Rattle.packet.specs.declared.Packet.{Packet}
 use Rattle.packet.specs.declared.Look.the-variants.{Bad, Good}
 use Rattle.packet.specs.Header.{lookOf, packetOf, sizeOf, bad}
@@ -154,12 +156,20 @@ Twin x y = (incomplete y ≡ true) × ((y .channel .0 ≡ x .channel .0) × (y .
 abbrev pub Twins : Slot → Slot → Type 0
 Twins x y = (incomplete x ≡ true) × Twin x y
 
+two-numbers : {P : Type 0} (m n p q : ℕ) → (m ≡ n → p ≡ q → P) → (P → (m ≡ n) × (p ≡ q)) → Decides P (eqb m n && eqb p q)
+two-numbers m n p q there back = decides-same (λ (f, g). there f g) back (decides-eqb m n and decides-eqb p q)
+
+-- a file of this channel and application
+pair-exactly : (c : Channel) (a : Application) (y : Slot) → Decides ((y .channel .0 ≡ c .0) × (y .application .0 ≡ a .0)) (ofPair c a y)
+unfolding ofPair
+pair-exactly c a y = two-numbers (y .channel .0) _ (y .application .0) _ (λ f g. (omega arith, omega arith)) (λ h. (omega arith, omega arith))
+
 twin-exactly : (x : Slot) (ys : List Slot) → Decides (Some (λ (j : ℕ). Twin x (getD ys j noFile)) (length ys)) (twinIn x ys)
-unfolding twinIn ofPair
+unfolding twinIn
 twin-exactly x [] = fails (some-none (λ (j : ℕ). Twin x noFile))
 twin-exactly x (y ∷ ys) =
     decides-some (λ (j : ℕ). Twin x (getD (y ∷ ys) j noFile))
-    (decides-self (incomplete y) and (decides-eqb (y .channel .0) (x .channel .0) and decides-eqb (y .application .0) (x .application .0)))
+    (decides-self (incomplete y) and pair-exactly (x .channel) (x .application) y)
     (twin-exactly x ys)
 
 pub twins-exactly : (xs : List Slot) → Decides (Apart (λ (i j : ℕ). Twins (getD xs i noFile) (getD xs j noFile)) (length xs)) (noTwins xs)

@@ -1,10 +1,9 @@
 -- Soundness as a test. That it answers true exactly if the state is sound is proved (proofs/Exactly.antt). Assumes nothing.
-use mathlib.Core.Path.{_≡_}
 use mathlib.Core.Bool.{Bool, true, false, not, _&&_, _||_}
 use mathlib.Core.List.{List, [], _∷_}
-use Prim.Native.Nat.{ℕ, zero, suc, _<_}
+use Prim.Native.Nat.{ℕ, zero, suc}
 use lib.Dec.{leb, ltb, eqb}
-use lib.ListN.{length, getD, take, drop}
+use lib.ListN.{length, take, drop}
 use Rattle.octets.specs.Choice.{if_then_else_}
 use Rattle.octets.specs.Buffer.{allZero}
 use Rattle.octets.specs.Each.{each}
@@ -39,10 +38,6 @@ setUpSound channels names blocks = leb channels 8 && goodChannels names && leb 1
 -- an owner: 0 for none, else a slot's number plus 1
 abbrev pub isOwner : ℕ → Bool
 isOwner o = leb o 32
-
--- a tally of a table: for each octet, how many entries are that octet
-abbrev pub Tallies : List ℕ → List ℕ → Type 0
-Tallies t tally = (o : ℕ) → o < 256 → getD tally o 0 ≡ length (numbersOf o 0 t)
 
 -- "a free slot is all zero", and owns no block
 abbrev pub freeSound : ℕ → Slot → Bool

@@ -11,13 +11,10 @@ use Rattle.frame.specs.declared.Examined.{Examined}
 use Rattle.frame.specs.declared.Examined.the-variants.{Refused, Good}
 use Rattle.frame.specs.Header.{derandomised, zoneOf}
 use Rattle.frame.specs.Refusals.{examined}
-use Rattle.state.specs.declared.Head.{Head}
 use Rattle.state.specs.declared.Station.{Station}
-use Rattle.state.specs.Slots.{stationOf}
 use Rattle.state.specs.Decision.{isSound, areDesksSound}
 use Rattle.events.specs.Event.{flat}
-use Rattle.zone.specs.Walk.{withDesk, Walked, walked}
-use Rattle.station.specs.declared.Outcome.{Outcome}
+use Rattle.zone.specs.Walk.{Walked, walked}
 use Rattle.station.specs.SetUp.{desksFit, channelOf}
 use Rattle.station.specs.Files.{storeFits}
 
@@ -33,11 +30,6 @@ pub record FrameOutcome : Type 0 where
 abbrev pub frameGives : ℕ → ℕ → Station → List ℕ → List ℕ → List ℕ → FrameOutcome
 frameGives n count s desks store list =
     record { answer = n; events = count; station = s; desks = desks; store = store; list = list }
-
--- the same, from the parts of the state that a frame can change: the owners, the slots, and what the state keeps of one desk
-abbrev pub outcomeOf : Head → List ℕ → Outcome → List ℕ → List ℕ → List ℕ → FrameOutcome
-outcomeOf head owner o desks store list =
-    frameGives (o .answer) (o .events) (withDesk (stationOf head owner (o .slots)) (o .desk) (o .position)) desks store list
 
 -- "1: desks not 8,198 octets a channel; store not whole blocks, 1 to 4,096, as many as at set-up; for a frame, fewer than 900 event numbers"
 abbrev pub lentRight : Station → List ℕ → List ℕ → List ℕ → Bool

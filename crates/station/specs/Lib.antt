@@ -1,5 +1,5 @@
 -- The public calls: what each gives back, as a function of what came in. The paper: SetUp, Files, Frame; Answers, the numbers of each call in
--- their order; Wild, states that no run reaches. Means: Handed, and in Frame `outcomeOf`.
+-- their order; Wild, states that no run reaches. Means: Handed.
 pub mod SetUp
 pub mod Files
 pub mod Frame

@@ -1,7 +1,7 @@
 -- Pieces that follow one another are one piece. Assumes nothing.
 use mathlib.Core.Path.{_≡_, refl, sym, ap, _∙_}
 use mathlib.Core.List.{List, [], _∷_, _++_}
-use Prim.Native.Nat.{ℕ, suc, _+_, _-_, _*_, _/_, _%_, _≤_, _<_}
+use Prim.Native.Nat.{ℕ, suc, _+_, _*_, _/_, _%_, _≤_, _<_}
 use native.Mathlib.Nat.{add-zero, add-assoc}
 use native.Mathlib.Numerals.{add-one}
 use native.Mathlib.Omega.{arith}
@@ -9,7 +9,7 @@ use lib.ListN.{length, set, getD, drop, length-append, length-set, drop-of-lengt
 use lib.Seq.{drop-cons}
 use Rattle.io.specs.Digits.{digits, glyph}
 use Rattle.octets.specs.Buffer.{put}
-use Rattle.octets.proofs.Put.{put-put, put-nil, length-put}
+use Rattle.octets.proofs.Put.{put-put, put-nil}
 use Rattle.text.specs.Pieces.{Written, inHex}
 
 pub behind : {before middle after p q : List ℕ} {at between end : ℕ} → Written before at p middle between
@@ -20,9 +20,6 @@ behind {before = before} {p = p} {q = q} {at = at} u w =
 -- nothing put anywhere
 pub nothing : (before : List ℕ) (at : ℕ) → Written before at [] before at
 nothing before at = record { holds = sym (put-nil before at); ends = sym (add-zero at) }
-
-pub same-room : {before after p : List ℕ} {at end : ℕ} → Written before at p after end → length after ≡ length before
-same-room {before = before} {p = p} {at = at} w = rw (w .holds) (length-put before at p)
 
 -- an octet alone
 pub octet : (before : List ℕ) (at x : ℕ) → Written before at (x ∷ []) (set before at x) (at + 1)

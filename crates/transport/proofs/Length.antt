@@ -1,11 +1,19 @@
--- The laws of the need and the rest. None looks at what `goodLength` says, and `octets-few` alone at what `octetsOfBits` says: the others
--- hold of every L, whatever octets a file of L bits has, because the ten octets in front of it are always there. Assumes nothing.
+-- The laws of the length, the need and the rest. `length-plainly` alone looks at what `goodLength` says, and `octets-few` alone at what
+-- `octetsOfBits` says: the others hold of every L, whatever octets a file of L bits has, because the ten octets in front of it are always
+-- there. Assumes nothing.
 use mathlib.Core.Path.{_≡_, refl}
-use Prim.Native.Nat.{ℕ, _+_, _-_, _*_, _^_, _≤_, _<_}
+use Prim.Native.Nat.{ℕ, _+_, _-_, _*_, _%_, _^_, _≤_, _<_}
 use native.Mathlib.Omega.{arith}
-use Rattle.transport.specs.Length.{octetsOfBits, transportSize, need, rest}
+use Rattle.octets.specs.Choice.{Decides}
+use Rattle.octets.proofs.Decide.{decides-eqb, decides-not, _and_}
+use Rattle.transport.specs.Length.{goodLength, octetsOfBits, transportSize, need, rest}
 
 module _ (L : ℕ) where
+  -- not "0 or not a multiple of 8"
+  pub length-plainly : Decides ((L ≡ 0 → ⊥) × (L % 8 ≡ 0)) (goodLength L)
+  unfolding goodLength
+  length-plainly = decides-not (decides-eqb L 0) and decides-eqb (L % 8) 0
+
   pub size-sum : transportSize L ≡ 10 + octetsOfBits L
   unfolding transportSize
   size-sum = refl
@@ -29,9 +37,6 @@ module _ (L : ℕ) where
 
   pub rest-bounds : (1 ≤ rest L) × (rest L ≤ 8190)
   rest-bounds = omega (arith, rest-sum, need-one, need-covers, need-least)
-
-  pub need-by-octets : octetsOfBits L ≤ 8190 * need L - 10
-  need-by-octets = omega (arith, size-sum, need-covers)
 
   -- no octet more than the bits begin
   pub octets-few : 8 * octetsOfBits L < L + 8

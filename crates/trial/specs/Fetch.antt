@@ -1,13 +1,12 @@
--- The payload of a command, as it comes from the input. Assumes nothing.
+-- A command and its payload, as they come from the input. Assumes nothing.
 use mathlib.Core.Path.{_≡_}
 use Prim.Native.Nat.{_≤_}
-use Rattle.script.specs.declared.Command.{Command}
 use Rattle.script.specs.declared.Payload.the-variants.{Octets}
 use Rattle.script.specs.Script.{payloadOf}
 use Rattle.trial.specs.declared.Fetched.{Fetched}
 use Rattle.trial.specs.declared.Fetched.the-variants as fetched
 
 -- a payload that came whole is as long as the command says
-abbrev pub Fetches : Command → Fetched → Type 0
-Fetches x (fetched.Octets n) = (payloadOf x ≡ Octets n) × (n ≤ 2048)
-Fetches x (fetched.Unused n) = Unit
+abbrev pub Fetches : Fetched → Type 0
+Fetches (fetched.Octets x n) = (payloadOf x ≡ Octets n) × (n ≤ 2048)
+Fetches (fetched.Unused n) = Unit

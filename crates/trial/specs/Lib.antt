@@ -1,2 +1,2 @@
--- The payload of a command, as it comes: means.
+-- A command and its payload, as they come: means.
 pub mod Fetch

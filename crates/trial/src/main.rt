@@ -49,17 +49,23 @@ fn rest() -> u64
     n
 }
 
-// The payload of a command: so many octets, at the start of a buffer; or how many octets of the script are not used, with the command's own,
-// for the run ends with it.
+// What comes next of the script: a command whose payload is so many octets, at the start of a buffer; or how many octets of the script are not
+// used, for the run ends with them.
 pub enum Fetched {
-    Octets(usize),
+    Octets(Command, usize),
     Unused(u64),
 }
 
-fn fetch(x: Command, payload: &mut [u8]) -> Fetched
+fn fetch(payload: &mut [u8]) -> Fetched
     requires { ⌜ length (now payload) ≡ 2048 ⌝ }
-    ensures { λ r. ⌜ Fetches x r ⌝ }
+    ensures { λ r. ⌜ Fetches r ⌝ }
 {
+    let mut head = [0u8; Command::SIZE];
+    let got = io::read_full(STDIN_FILENO, &mut head);
+    if got < Command::SIZE {
+        return Fetched::Unused(got as u64);
+    }
+    let x = Command::read(&head);
     let p = x.payload();
     match p {
         Payload::Refused => {
@@ -70,7 +76,7 @@ fn fetch(x: Command, payload: &mut [u8]) -> Fetched
             if came < k {
                 return Fetched::Unused(16 + came as u64);
             }
-            return Fetched::Octets(k);
+            return Fetched::Octets(x, k);
         }
     }
 }
@@ -110,7 +116,6 @@ fn end(n: u64, unused: u64, out: &mut [u8])
 fn follow(desks: &mut [u8], store: &mut [u8], out: &mut [u8])
     requires { ⌜ length (now out) ≡ 90844 ⌝ }
 {
-    let mut head = [0u8; Command::SIZE];
     let mut payload = [0u8; PAYLOAD];
     let zero = Station::zero();
     let mut w = Run {
@@ -121,19 +126,13 @@ fn follow(desks: &mut [u8], store: &mut [u8], out: &mut [u8])
     };
     let mut n: u64 = 0;
     while n < u64::MAX {
-        let got = io::read_full(STDIN_FILENO, &mut head);
-        if got < Command::SIZE {
-            end(n, got as u64, out);
-            return;
-        }
-        let x = Command::read(&head);
-        let f = fetch(x, &mut payload);
+        let f = fetch(&mut payload);
         match f {
             Fetched::Unused(m) => {
                 end(n, m, out);
                 return;
             }
-            Fetched::Octets(k) => {
+            Fetched::Octets(x, k) => {
                 w = obey(w, x, &payload, k, desks, store, out);
             }
         }

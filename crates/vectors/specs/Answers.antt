@@ -19,7 +19,7 @@ use Rattle.packet.specs.Header.{lookOf}
 use Rattle.transport.specs.Length.{goodLength, need, rest}
 use Rattle.transport.specs.Shape.{fits}
 use Rattle.records.specs.Reader.{readHeader, readRecord}
-use Rattle.readout.specs.Heads.{frameText, packetText}
+use Rattle.heads.specs.Heads.{frameText, packetText}
 use Rattle.readout.specs.Readout.{headerText, recordText}
 use Rattle.vectors.specs.Question.{questionOf}
 

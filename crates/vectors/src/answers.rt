@@ -14,7 +14,7 @@ ghost use Rattle.octets.specs.Number.{numberAt};
 ghost use Rattle.text.specs.Pieces.{Written, inHex};
 ghost use Rattle.frame.specs.Header.{frameOf};
 ghost use Rattle.packet.specs.Header.{lookOf};
-ghost use Rattle.readout.specs.Heads.{frameText, packetText};
+ghost use Rattle.heads.specs.Heads.{frameText, packetText};
 ghost use Rattle.vectors.specs.Answers.{noQuestion, ofOctets, sequence, noiseText, crcText, lengthText, fitText, shapeText, counterText, numberedText, answerTo, answerOf};
 
 // What is printed for a line that is no question.
@@ -73,14 +73,14 @@ fn frame_answer(q: &[u8], out: &mut [u8]) -> usize
     if q.len() != 8 {
         return refusal(out);
     }
-    readout::frame_answer(Frame::read(q), out)
+    heads::frame_answer(Frame::read(q), out)
 }
 
 fn packet_answer(q: &[u8], out: &mut [u8]) -> usize
     requires { ⌜ length (now out) ≡ 2051 ⌝ }
     ensures { λ r. ⌜ (r ≤ 2050) × Written (now (out .entry)) 0 (packetText (lookOf (now (q .entry)))) (now (out .exit)) r ⌝ }
 {
-    readout::packet_answer(packet::look_at(q), out)
+    heads::packet_answer(packet::look_at(q), out)
 }
 
 fn length_answer(q: &[u8], out: &mut [u8]) -> usize

@@ -98,9 +98,6 @@ pub split-is : {xs : List ℕ} {sp : Split} → Splits xs sp → split xs ≡ sp
 unfolding split
 split-is {xs} t = splits-same t (length xs) (omega arith)
 
-pub split-by : (n : ℕ) (xs : List ℕ) → length xs ≤ n → splitBy n xs ≡ split xs
-split-by n xs m = splits-same (splits-as xs) n m
-
 -- reading on from some octets, by what stands at their start
 module _ (xs : List ℕ) where
   pub split-short : lookOf xs ≡ Short → split xs ≡ unfinished xs

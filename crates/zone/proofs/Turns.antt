@@ -28,9 +28,8 @@ use Rattle.judge.specs.Ruling.{rulingOf}
 use Rattle.judge.specs.Contract.{Ready, Whole, Tells as TellsJudged}
 use Rattle.judge.proofs.Keeps.{stays-watched, judged-stays, judged-sized, judged-store, judged-sound}
 use Rattle.judge.proofs.Few.{few}
-use Rattle.judge.proofs.Flat.{tells-gives, tells-none, tells-one}
+use Rattle.judge.proofs.Flat.{tells-as, tells-gives, tells-none, tells-one}
 use Rattle.judge.proofs.Rulings.{ruled-skips, ruled-says}
-use Rattle.judge.proofs.Telling.{tells-as}
 use Rattle.zone.specs.declared.Next.{Next}
 use Rattle.zone.specs.declared.Next.the-variants.{Take, End}
 use Rattle.zone.specs.Zone.{Split, behind, split}

@@ -16,7 +16,7 @@ use Rattle.octets.proofs.Put.{length-put, part-put-in, part-put-out}
 use Rattle.frame.specs.declared.Accepted.{Accepted}
 use Rattle.frame.specs.declared.Channel.{Channel}
 use Rattle.packet.specs.declared.Packet.{Packet}
-use Rattle.packet.specs.declared.Look.the-variants.{Short, Bad, Good}
+use Rattle.packet.specs.declared.Look.the-variants.{Good}
 use Rattle.packet.specs.Header.{lookOf, sizeOf}
 use Rattle.packet.proofs.Looks.{look-tells}
 use Rattle.state.specs.declared.Desk.{Desk}
@@ -33,7 +33,7 @@ use Rattle.events.proofs.Flat.{flat-behind}
 use Rattle.zone.specs.Zone.{Split, unfinished, behind, split, Reading, fromPointer, Wholes, Unfinished}
 use Rattle.zone.specs.Walk.{judgedAll, gap, heldAt, readingOf, withHeld, withDesk, Walked, badEvents, walked, walkedBy, walkedFrom}
 use Rattle.zone.specs.Contract.{Lent, TellsWalked}
-use Rattle.zone.proofs.Split.{split-short, split-bad, split-part, split-whole, Cuts, split-wholes, split-left, split-cuts, unfinished-few, unfinished-held, held-unfinished, carried-lacks, carried-whole, carried-part}
+use Rattle.zone.proofs.Split.{Cuts, split-wholes, split-left, split-cuts, unfinished-few, unfinished-held, held-unfinished, carried-lacks, carried-whole, carried-part}
 use Rattle.zone.proofs.Split.Cuts.{at-end, at-bad}
 use Rattle.zone.proofs.Readings.{from-few, reading-gap, reading-seamless, Reads, reads-as}
 use Rattle.zone.proofs.Readings.Reads.{afresh, too-few, bad-header, goes-on, points-off}
@@ -44,10 +44,6 @@ after-after es fs j = λ i. gives (j .station) (j .store) (sym (append-assoc es 
 
 -- packets one after the other
 module _ (c : Channel) where
-  pub all-none : (s : Station) (store : List ℕ) → judgedAll c s store [] ≡ gives s store []
-  unfolding judgedAll
-  all-none s store = refl
-
   pub all-first : (s : Station) (store p : List ℕ) (ps : List (List ℕ))
       → judgedAll c s store (p ∷ ps)
       ≡ after (judged c s store p .events) (judgedAll c (judged c s store p .station) (judged c s store p .store) ps)
@@ -247,19 +243,6 @@ module _ (c : Channel) (s : Station) (desks store : List ℕ) (a : Accepted) whe
     from-left e =
         ap (walkedBy c s desks store a es) e ∙ ap (told (heldOn s desks store a es xs)) (append-nil (es ++ []) ∙ append-nil es)
 
-    pub from-short : lookOf xs ≡ Short → walkedFrom c s desks store a es xs ≡ heldOn s desks store a es xs
-    from-short e = from-left (split-short xs e)
-
-    pub from-part : {h : Packet} → lookOf xs ≡ Good h → length xs < sizeOf h → walkedFrom c s desks store a es xs ≡ heldOn s desks store a es xs
-    from-part e l = from-left (split-part xs e l)
-
-    -- "A bad header met later in the zone gives event 3 and drops the rest of the zone."
-    pub from-bad : lookOf xs ≡ Bad → walkedFrom c s desks store a es xs ≡ heldOn s desks store a (es ++ (bare 3 ∷ [])) []
-    unfolding judgedAll
-    from-bad e =
-        ap (walkedBy c s desks store a es) (split-bad xs e)
-        ∙ ap (λ (fs : List Event). heldOn s desks store a (fs ++ (bare 3 ∷ [])) []) (append-nil es)
-
     from-next : (p : List ℕ) (rest : List ℕ) → split xs ≡ behind p (split rest)
         → walkedFrom c s desks store a es xs
         ≡ walkedFrom c (judged c s store p .station) desks (judged c s store p .store) a (es ++ judged c s store p .events) rest
@@ -270,12 +253,6 @@ module _ (c : Channel) (s : Station) (desks store : List ℕ) (a : Accepted) whe
         ap (walkedBy c s desks store a es) e
         ∙ ap (λ (fs : List Event). told (walkedFrom c (j .station) desks (j .store) a [] rest) (fs ++ badEvents (split rest .bad)))
         (sym (append-assoc es (j .events) (k .events)))
-
-    pub from-whole : {h : Packet} → lookOf xs ≡ Good h → sizeOf h ≤ length xs
-        → walkedFrom c s desks store a es xs
-        ≡ walkedFrom c (judged c s store (take (sizeOf h) xs) .station) desks (judged c s store (take (sizeOf h) xs) .store) a
-        (es ++ judged c s store (take (sizeOf h) xs) .events) (drop (sizeOf h) xs)
-    from-whole {h} e l = from-next (take (sizeOf h) xs) (drop (sizeOf h) xs) (split-whole xs e l)
 
   -- the packet that is carried on into the zone, of which r octets were lacking
   module _ (es : List Event) (held zone : List ℕ) {h : Packet} (e : lookOf (held ++ zone) ≡ Good h) (r : ℕ) (lacked : length held + r ≡ sizeOf h) where

@@ -1,4 +1,4 @@
--- What the functions of this crate ask and promise. Assumes nothing.
+-- What the functions of this crate, of `walk` and of `carry` ask and promise. Assumes nothing.
 use mathlib.Core.Path.{_≡_}
 use mathlib.Core.Bool.{Bool, true, false}
 use mathlib.Core.List.{List}

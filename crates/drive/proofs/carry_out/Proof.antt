@@ -50,9 +50,6 @@ returns-2 c =
 read-file-requires : tie.Need-read-file-requires
 read-file-requires c κs = (search needs, search needs, read-limit (c .before .before .before .before .before .before .before .before .before .args .x) (c .before .before .before .before .before .before .before .before .before .pre .1) (c .before .before .if3 .taken))
 
-ended-requires : tie.Need-ended-requires
-ended-requires c κs = search needs
-
 same-length-7 : tie.Need-same-length-7
 same-length-7 c = search needs
 
@@ -61,11 +58,10 @@ same-length-8 c = search needs
 
 returns-3 : tie.Need-returns-3
 returns-3 c =
-    let a = c .before .before .before .before .before .before .before .before .before .before .before .before .before .args in
-    let law = by-r (a .x) (a .payload .now) (memory (a .w) (a .desks .now) (a .store .now)) (c .before .before .before .before .before .before .if3 .taken) in
-    let e = c .before .before .before .read-file .ensures in
-    let f = c .ended .ensures in
-    (rw f (sym (law .0)), (rw f (e .0), rw (f, law .1) (e .1 (a .desks .now))))
+    let a = c .before .before .before .before .before .before .before .before .before .before .before .before .args in
+    let law = by-r (a .x) (a .payload .now) (memory (a .w) (a .desks .now) (a .store .now)) (c .before .before .before .before .before .if3 .taken) in
+    let e = c .before .before .read-file .ensures in
+    (e .0 (a .desks .now) (a .store .now) ∙ sym (law .0), (e .1 .0, rw (law .1) (e .1 .1 (a .desks .now))))
 
 release-requires : tie.Need-release-requires
 release-requires c κs = search needs
@@ -96,9 +92,6 @@ returns-5 c =
 show-lent-requires : tie.Need-show-lent-requires
 show-lent-requires c κs = search needs
 
-ended-requires-2 : tie.Need-ended-requires-2
-ended-requires-2 c κs = search needs
-
 same-length-11 : tie.Need-same-length-11
 same-length-11 c = search needs
 
@@ -110,11 +103,10 @@ same-length-13 c = search needs
 
 returns-6 : tie.Need-returns-6
 returns-6 c =
-    let a = c .before .before .before .before .before .before .before .before .before .before .before .before .before .before .before .before .before .args in
-    let law = by-h (a .x) (a .payload .now) (memory (a .w) (a .desks .now) (a .store .now)) (c .before .before .before .before .before .before .before .if6 .taken) in
-    let e = c .before .before .before .show-lent .ensures in
-    let f = c .ended2 .ensures in
-    (rw f (sym (law .0)), (rw f (e .0), rw (f, law .1) (e .1)))
+    let a = c .before .before .before .before .before .before .before .before .before .before .before .before .before .before .before .before .args in
+    let law = by-h (a .x) (a .payload .now) (memory (a .w) (a .desks .now) (a .store .now)) (c .before .before .before .before .before .before .if6 .taken) in
+    let e = c .before .before .show-lent .ensures in
+    (e .0 (a .desks .now) (a .store .now) ∙ sym (law .0), (e .1 .0, rw (law .1) (e .1 .1)))
 
 poke-requires : tie.Need-poke-requires
 poke-requires c κs = search needs
@@ -147,7 +139,6 @@ carry-out-spec =
     same-length-6
     returns-2
     read-file-requires
-    ended-requires
     same-length-7
     same-length-8
     returns-3
@@ -158,7 +149,6 @@ carry-out-spec =
     same-length-10
     returns-5
     show-lent-requires
-    ended-requires-2
     same-length-11
     same-length-12
     same-length-13

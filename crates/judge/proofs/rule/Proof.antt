@@ -3,7 +3,7 @@ use native.Mathlib.Omega.{arith}
 use borrow.Author.Needs.{needs}
 use Rattle.octets.proofs.Tests.{denied, granted}
 use Rattle.judge.proofs.Parts.{data-cut}
-use Rattle.judge.proofs.Finding.{read-application, read-checked}
+use Rattle.judge.proofs.Reading.{read-application, read-checked}
 use Rattle.judge.proofs.Rulings.{ruling-fill, ruling-other, ruling-damaged, ruling-file}
 use Rattle.judge.proofs.rule.Statement.{statement}
 use Rattle.judge.proofs.rule.Tie as tie

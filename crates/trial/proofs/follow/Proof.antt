@@ -4,17 +4,16 @@ use Prim.Native.Nat.{_-_, _≤_}
 use native.Mathlib.Omega.{arith}
 use borrow.Author.Needs.{needs}
 use lib.ListN.{length}
-use Rattle.trial.specs.declared.Fetched.{Fetched}
 use Rattle.trial.specs.Fetch.{Fetches}
 use Rattle.trial.proofs.follow.Statement.{statement}
 use Rattle.trial.proofs.follow.Tie as tie
 
 abbrev Inv-loop : tie.InvT-loop
-Inv-loop desks₀ store₀ out₀ head₀ payload₀ w₀ n₀ desks store out head payload w n =
-    (length head ≡ 16) × (length payload ≡ 2048) × (length desks ≡ length desks₀) × (length store ≡ length store₀) × (length out ≡ 90844) × (w .desks ≤ length desks₀) × (w .store ≤ length store₀)
+Inv-loop desks₀ store₀ out₀ payload₀ w₀ n₀ desks store out payload w n =
+    (length payload ≡ 2048) × (length desks ≡ length desks₀) × (length store ≡ length store₀) × (length out ≡ 90844) × (w .desks ≤ length desks₀) × (w .store ≤ length store₀)
 
 abbrev μ-loop : tie.MeasureT-loop
-μ-loop desks₀ store₀ out₀ head₀ payload₀ w₀ n₀ desks store out head payload w n = 18446744073709551615 - n
+μ-loop desks₀ store₀ out₀ payload₀ w₀ n₀ desks store out payload w n = 18446744073709551615 - n
 
 zero-requires : tie.Need-zero-requires Inv-loop μ-loop
 zero-requires c κs = search needs
@@ -22,11 +21,14 @@ zero-requires c κs = search needs
 loop-holds : tie.Need-loop-holds Inv-loop μ-loop
 loop-holds c = search needs
 
-slice-aggregate-read-full : tie.Need-slice-aggregate-read-full Inv-loop μ-loop
-slice-aggregate-read-full c = search needs
+slice-aggregate-fetch : tie.Need-slice-aggregate-fetch Inv-loop μ-loop
+slice-aggregate-fetch c = search needs
 
-read-full-requires : tie.Need-read-full-requires Inv-loop μ-loop
-read-full-requires c κs = search needs
+fetch-requires : tie.Need-fetch-requires Inv-loop μ-loop
+fetch-requires c κs = search needs
+
+enum-known-f : tie.Need-enum-known-f Inv-loop μ-loop
+enum-known-f c = search needs
 
 end-requires : tie.Need-end-requires Inv-loop μ-loop
 end-requires c κs = search needs
@@ -43,23 +45,28 @@ same-length-3 c = search needs
 returns : tie.Need-returns Inv-loop μ-loop
 returns c = search needs
 
-slice-aggregate-read : tie.Need-slice-aggregate-read Inv-loop μ-loop
-slice-aggregate-read c = search needs
+enum-known-f-2 : tie.Need-enum-known-f-2 Inv-loop μ-loop
+enum-known-f-2 c = search needs
 
-read-requires : tie.Need-read-requires Inv-loop μ-loop
-read-requires c κs = search needs
+slice-aggregate-obey : tie.Need-slice-aggregate-obey Inv-loop μ-loop
+slice-aggregate-obey c = search needs
 
-slice-aggregate-fetch : tie.Need-slice-aggregate-fetch Inv-loop μ-loop
-slice-aggregate-fetch c = search needs
+obey-requires : tie.Need-obey-requires Inv-loop μ-loop
+obey-requires c κs =
+    let got = subst Fetches (c .before .before .before .before .before .f2 .given .1) (c .before .before .before .before .before .before .before .before .fetch .ensures) in
+    ((search needs, search needs, search needs), (got .0, search (needs, got .1)))
 
-fetch-requires : tie.Need-fetch-requires Inv-loop μ-loop
-fetch-requires c κs = search needs
+add-n : tie.Need-add-n Inv-loop μ-loop
+add-n c = omega (arith, c .before .before .before .before .before .before .before .before .before .before .before .before .before .before .before .before .before .loop-test .taken)
 
-enum-known-f : tie.Need-enum-known-f Inv-loop μ-loop
-enum-known-f c = search needs
+loop-less : tie.Need-loop-less Inv-loop μ-loop
+loop-less c = omega (arith, c .before .before .before .before .before .before .before .before .before .before .before .before .before .before .before .before .before .loop-test .taken)
 
-end-requires-2 : tie.Need-end-requires-2 Inv-loop μ-loop
-end-requires-2 c κs = search needs
+loop-again : tie.Need-loop-again Inv-loop μ-loop
+loop-again c =
+    let within = c .before .before .before .before .before .before .obey .ensures .1 in
+    let inv = c .before .before .before .before .before .before .before .before .before .before .before .before .before .before .before .before .before .before .loop .inv in
+    (search needs, search needs, search needs, search needs, omega (arith, within .0, inv .1), omega (arith, within .1, inv .2))
 
 same-length-4 : tie.Need-same-length-4 Inv-loop μ-loop
 same-length-4 c = search needs
@@ -73,41 +80,6 @@ same-length-6 c = search needs
 returns-2 : tie.Need-returns-2 Inv-loop μ-loop
 returns-2 c = search needs
 
-enum-known-f-2 : tie.Need-enum-known-f-2 Inv-loop μ-loop
-enum-known-f-2 c = search needs
-
-slice-aggregate-obey : tie.Need-slice-aggregate-obey Inv-loop μ-loop
-slice-aggregate-obey c = search needs
-
-obey-requires : tie.Need-obey-requires Inv-loop μ-loop
-obey-requires c κs =
-    let got = subst (λ (f : Fetched). Fetches (c .before .before .before .before .before .before .before .before .before .before .read .result) f) (c .before .before .before .before .before .f2 .given .1) (c .before .before .before .before .before .before .before .before .fetch .ensures) in
-    ((search needs, search needs, search needs), (got .0, search (needs, got .1)))
-
-add-n : tie.Need-add-n Inv-loop μ-loop
-add-n c = omega (arith, c .before .before .before .before .before .before .before .before .before .before .before .before .before .before .before .before .before .before .before .before .before .before .before .loop-test .taken)
-
-loop-less : tie.Need-loop-less Inv-loop μ-loop
-loop-less c = omega (arith, c .before .before .before .before .before .before .before .before .before .before .before .before .before .before .before .before .before .before .before .before .before .before .before .loop-test .taken)
-
-loop-again : tie.Need-loop-again Inv-loop μ-loop
-loop-again c =
-    let within = c .before .before .before .before .before .before .obey .ensures .1 in
-    let inv = c .before .before .before .before .before .before .before .before .before .before .before .before .before .before .before .before .before .before .before .before .before .before .before .before .loop .inv in
-    (search needs, search needs, search needs, search needs, search needs, omega (arith, within .0, inv .2), omega (arith, within .1, inv .3))
-
-same-length-7 : tie.Need-same-length-7 Inv-loop μ-loop
-same-length-7 c = search needs
-
-same-length-8 : tie.Need-same-length-8 Inv-loop μ-loop
-same-length-8 c = search needs
-
-same-length-9 : tie.Need-same-length-9 Inv-loop μ-loop
-same-length-9 c = search needs
-
-returns-3 : tie.Need-returns-3 Inv-loop μ-loop
-returns-3 c = search needs
-
 pub follow-spec : {M : Type 1} → statement M
 follow-spec =
     tie.close
@@ -116,30 +88,21 @@ follow-spec =
     μ-loop
     zero-requires
     loop-holds
-    slice-aggregate-read-full
-    read-full-requires
+    slice-aggregate-fetch
+    fetch-requires
+    enum-known-f
     end-requires
     same-length
     same-length-2
     same-length-3
     returns
-    slice-aggregate-read
-    read-requires
-    slice-aggregate-fetch
-    fetch-requires
-    enum-known-f
-    end-requires-2
-    same-length-4
-    same-length-5
-    same-length-6
-    returns-2
     enum-known-f-2
     slice-aggregate-obey
     obey-requires
     add-n
     loop-less
     loop-again
-    same-length-7
-    same-length-8
-    same-length-9
-    returns-3)
+    same-length-4
+    same-length-5
+    same-length-6
+    returns-2)

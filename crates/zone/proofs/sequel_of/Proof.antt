@@ -4,7 +4,7 @@ use mathlib.Core.Logic.{⊎-elim}
 use native.Mathlib.Omega.{arith}
 use borrow.Author.Needs.{needs}
 use Rattle.packet.proofs.Tags.{look-told}
-use Rattle.zone.proofs.Carry.{sequel-short, sequel-spoilt, sequel-agrees, sequel-differs}
+use Rattle.zone.proofs.Sequels.{sequel-short, sequel-spoilt, sequel-agrees, sequel-differs}
 use Rattle.zone.proofs.sequel_of.Statement.{statement}
 use Rattle.zone.proofs.sequel_of.Tie as tie
 

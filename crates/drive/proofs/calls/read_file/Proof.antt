@@ -1,4 +1,5 @@
 -- `drive::calls::read_file` meets its contract. Assumes nothing.
+use mathlib.Core.Path.{refl}
 use native.Mathlib.Omega.{arith}
 use borrow.Author.Needs.{needs}
 use Rattle.drive.proofs.Outcomes.{read-given}
@@ -34,9 +35,9 @@ same-length c = search needs
 
 returns : tie.Need-returns
 returns c =
-    let a = c .before .before .before .before .before .before .before .before .before .before .before .args in
+    let a = c .before .before .before .before .before .before .before .before .before .before .args in
     let line = c .before .before .before .read-lent .ensures in
-    (line .0, λ desks. rw (read-given (a .x) (a .w) desks _ (omega arith)) at (line .1))
+    ((λ desks store. refl), (line .0, λ desks. rw (read-given (a .x) (a .w) desks _ (omega arith)) at (line .1)))
 
 pub read-file-spec : {M : Type 1} → statement M
 read-file-spec =

@@ -1,4 +1,5 @@
 -- `drive::calls::show_lent` meets its contract. Assumes nothing.
+use mathlib.Core.Path.{refl}
 use borrow.Author.Needs.{needs}
 use native.Mathlib.Nat.{sub-zero}
 use Rattle.drive.proofs.calls.show_lent.Statement.{statement}
@@ -30,8 +31,8 @@ same-length c = search needs
 
 returns : tie.Need-returns
 returns c =
-    let w = c .before .before .before .before .before .before .before .before .before .before .args .w in
-    rw (sub-zero (w .desks), sub-zero (w .store)) at (c .before .before .show .ensures)
+    let w = c .before .before .before .before .before .before .before .before .before .args .w in
+    ((λ desks store. refl), rw (sub-zero (w .desks), sub-zero (w .store)) at (c .before .before .show .ensures))
 
 pub show-lent-spec : {M : Type 1} → statement M
 show-lent-spec =

@@ -1,0 +1,2 @@
+-- How a frame begins. Means: Contract.
+pub mod Contract

@@ -1,0 +1,2 @@
+-- The marker's four octets, compared as one number.
+pub mod Marks

@@ -1,0 +1,76 @@
+-- `read_file` meets its contract: each case of what `ask` tells is a clause of the definition. Assumes nothing.
+use mathlib.Core.Path.{_≡_}
+use mathlib.Core.Bool.{true, false}
+use mathlib.Core.List.{List}
+use Prim.Native.Nat.{ℕ}
+use borrow.Author.Needs.{needs}
+use Rattle.octets.proofs.Tests.{denied, granted}
+use Rattle.state.specs.declared.Station.{Station}
+use Rattle.station.specs.Files.{storeFits, asked, ReadOutcome, readGives, readAs, readOut}
+use Rattle.station.specs.declared.Asked.{Asked}
+use Rattle.station.proofs.Asking.{told-complete}
+use Rattle.files.proofs.read_file.Statement.{statement}
+use Rattle.files.proofs.read_file.Tie as tie
+
+module _ (s : Station) (store : List ℕ) (k offset : ℕ) (buffer : List ℕ) where
+  misfit : storeFits (s .blocks) store ≡ false → readGives 1 buffer ≡ readOut s store k offset buffer
+  unfolding readOut
+  misfit e = rw e
+
+  as-asked : {a : Asked} {r : ReadOutcome} → storeFits (s .blocks) store ≡ true → a ≡ asked s k → r ≡ readAs s store offset buffer a
+      → r ≡ readOut s store k offset buffer
+  unfolding readOut
+  as-asked e f g = rw (e, ← f) g
+
+store-fits-requires : tie.Need-store-fits-requires
+store-fits-requires c κs = search needs
+
+returns : tie.Need-returns
+returns c = misfit _ _ _ _ _ (search denied)
+
+ask-requires : tie.Need-ask-requires
+ask-requires c κs = search needs
+
+enum-known-a : tie.Need-enum-known-a
+enum-known-a c = search needs
+
+enum-told : tie.Need-enum-told
+enum-told c = search needs
+
+enum-known-a-2 : tie.Need-enum-known-a-2
+enum-known-a-2 c = search needs
+
+fill-requires : tie.Need-fill-requires
+fill-requires c κs =
+    let (known, whole) = told-complete _ _ (c .before .before .before .before .ask .ensures) (c .before .before .a2 .given .1) in
+    ((search granted, known .sound), (known .low, whole))
+
+returns-2 : tie.Need-returns-2
+unfolding readAs
+returns-2 c = as-asked _ _ _ _ _ (search granted) (c .before .before .before .ask .ensures) (rw (c .before .a .given .1))
+
+returns-3 : tie.Need-returns-3
+unfolding readAs
+returns-3 c = as-asked _ _ _ _ _ (search granted) (c .before .before .ask .ensures) (rw (c .enum-told .given .1))
+
+same-length : tie.Need-same-length
+same-length c = search needs
+
+returns-4 : tie.Need-returns-4
+returns-4 c = as-asked _ _ _ _ _ (search granted) (c .before .before .before .before .before .before .before .ask .ensures) (rw (c .before .before .before .before .before .a2 .given .1) (c .before .before .fill .ensures))
+
+pub read-file-spec : {M : Type 1} → statement M
+read-file-spec =
+    tie.close
+    (tie.spec
+    store-fits-requires
+    returns
+    ask-requires
+    enum-known-a
+    enum-told
+    enum-known-a-2
+    fill-requires
+    returns-2
+    returns-3
+    same-length
+    returns-4)

@@ -1,0 +1,2 @@
+-- The tally of the blocks' owners: a means.
+pub mod Tally

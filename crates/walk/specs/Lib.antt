@@ -1,0 +1,2 @@
+-- The desk behind a walk. Means: Contract.
+pub mod Contract
