@@ -1,13 +1,18 @@
-//! Input of one kind, by which the cost of a frame, of a decision of soundness, or of a file let go is
-//! counted. Asked for more frames or calls, each only goes on.
+//! Input of one kind, by which the cost of a frame, of a decision of soundness, of a file let go, or of an
+//! octet hunted through is counted. Asked for more frames or calls, each only goes on.
 
 use std::io::Write;
 
+use crate::makers::chance::Chance;
 use crate::makers::make::{self, File, PacketFields};
+use crate::makers::raw;
 use crate::makers::script::{Field, Held, Script};
-use crate::model::frame::{self, Channel, ZONE_SIZE};
+use crate::model::frame::{self, Channel, MARKER, ZONE_SIZE};
 use crate::model::packet::{Application, Flags};
 use crate::model::transport::{BLOCK_SIZE, HEADER_SIZE};
+
+/// The seed of the loads that have octets by chance.
+const LOAD_SEED: u64 = 1;
 
 /// Prints the load of this name; false if there is none.
 pub fn run(name: &str, size: usize, out: &mut dyn Write) -> bool {
@@ -26,6 +31,8 @@ pub fn run(name: &str, size: usize, out: &mut dyn Write) -> bool {
         "sound-64" => with_calls(held(64), size, |script| script.release(32)),
         "dropped-64" => with_calls(held(64), size, |script| script.drop_file(0)),
         "abandoned-64" => with_calls(held(64), size, abandoning),
+        "raw-step" => in_step(size),
+        "raw-noise" => raw::quiet(&mut Chance::new(LOAD_SEED), size * frame::SIZE),
         _ => return false,
     };
     let _ = out.write_all(&octets);
@@ -158,4 +165,12 @@ fn abandoning(script: &mut Script) {
         |application| PacketFields::plain(Application(application), Flags::Middle, 0).packet(&[0]);
     let packets: Vec<Vec<u8>> = (0..32).map(stray).collect();
     script.filled(0, 0, &packets.concat());
+}
+
+/// A raw stream of so many frames, one behind the other, with no marker but their own.
+fn in_step(frames: usize) -> Vec<u8> {
+    let mut chance = Chance::new(LOAD_SEED);
+    (0..frames)
+        .flat_map(|_| raw::frame_behind(&MARKER, &mut chance))
+        .collect()
 }

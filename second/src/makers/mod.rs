@@ -1,13 +1,17 @@
-//! What makes input for the receiver: cases, random scripts, streams and the demonstration.
+//! What makes input for the programs: cases, random scripts, streams and the demonstration.
 
 pub mod cases;
 pub mod chance;
+pub mod chase_script;
+pub mod chases;
 pub mod demo;
 pub mod headers;
 pub mod loads;
 pub mod make;
 pub mod make_header;
 pub mod random;
+pub mod random_chase;
+pub mod raw;
 pub mod script;
 pub mod sender;
 pub mod stream;

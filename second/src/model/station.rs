@@ -13,7 +13,7 @@ pub const SLOTS: usize = 32;
 /// Room for 300 events, three numbers each.
 pub const LEAST_EVENT_NUMBERS: usize = 900;
 
-/// The refusals of 01's table, in its order.
+/// The refusals of 01's table, in its order, and that of begin (docs/STREAM.md).
 #[derive(Clone, Copy, Debug, PartialEq, Eq)]
 pub enum Refusal {
     Memory = 1,
@@ -30,6 +30,7 @@ pub enum Refusal {
     Incomplete = 12,
     Complete = 13,
     PastEnd = 14,
+    WrongBits = 15,
 }
 
 /// The number of an answer: 0 for "done".

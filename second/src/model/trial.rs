@@ -15,23 +15,23 @@ use crate::model::vectors::hexadecimal;
 const DESKS_SIZE: usize = 9 * DESK_SIZE;
 const STORE_SIZE: usize = 65 * BLOCK_SIZE + 1;
 
-const COMMAND_SIZE: usize = 16;
+pub const COMMAND_SIZE: usize = 16;
 const MOST_CHANNEL_OCTETS: usize = 64;
 const MOST_EVENT_NUMBERS: usize = 1200;
 const MOST_FRAME_OCTETS: usize = 2048;
 const MOST_READ_OCTETS: usize = 16_384;
 
 /// "letter (1), a (1), b (2), c (4), d (8)"
-struct Command {
-    letter: u8,
-    a: u8,
-    b: u16,
-    c: u32,
-    d: u64,
+pub struct Command {
+    pub letter: u8,
+    pub a: u8,
+    pub b: u16,
+    pub c: u32,
+    pub d: u64,
 }
 
 impl Command {
-    fn of(octets: &[u8]) -> Command {
+    pub fn of(octets: &[u8]) -> Command {
         let mut fields = Fields::of(octets);
         Command {
             letter: fields.cut(8) as u8,

@@ -11,3 +11,4 @@ mod scripts;
 mod sha256;
 mod soundness;
 mod station;
+mod stream;
