@@ -2,18 +2,21 @@
 use mathlib.Core.Path.{_≡_, refl, sym, ap, ap₂, _∙_, subst}
 use mathlib.Core.Bool.{Bool, true, false, true≢false, false≢true}
 use mathlib.Core.List.{List, [], _∷_, _++_, map, flatten, append-nil, List·Memᴰ, List·Memᴰ·cases-cons}
-use mathlib.Core.Logic.{⊎-elim}
+use mathlib.Core.Logic.{inl, inr, ⊎-elim}
 use Prim.Native.Nat.{ℕ, _+_, _-_, _*_, _≤_, _<_}
 use native.Mathlib.Decide.{ℕ-discrete}
 use native.Mathlib.Omega.{arith}
 use borrow.Author.Tests.{le-leb, lt-leb, eq-eqb, ne-eqb}
-use lib.ListN.{length, take, drop, length-append, length-drop, take-append-drop}
+use lib.ListN.{length, take, drop, getD, replicate, length-append, length-drop, take-append-drop}
 use lib.Bits.{bitXor, xor-self}
 use lib.Count.{ones}
-use lib.Seq.{length-take-le, take-at, drop-at}
+use lib.Seq.{length-take-le, take-at, drop-at, getD-drop}
 use Rattle.octets.specs.Number.{Octets, part, number}
 use Rattle.octets.specs.Choice.{if_then_else_, Decides}
 use Rattle.octets.specs.Choice.Decides.{holds, fails}
+use Rattle.octets.specs.Buffer.{allZero}
+use Rattle.octets.proofs.Decide.{told-true, tells}
+use Rattle.octets.proofs.Zero.{blank-at, all-blank, allZero-replicate}
 use Rattle.frame.specs.declared.Channel.{Channel}
 use Rattle.frame.specs.Header.{marker, startsWith, derandomised, frameOf}
 use Rattle.frame.specs.Refusals.{examined, examinedHeader}
@@ -22,14 +25,14 @@ use Rattle.stream.specs.Stream.{wrongBits, isMarker, Here, here, Piece, 
 use Rattle.stream.specs.Stream.Here.{Waits, Passes, Whole}
 use Rattle.stream.specs.Stream.Piece.{over, frame}
 use Rattle.stream.specs.Stream.Cuts.{waits, passes, whole}
-use Rattle.stream.specs.Hunter.{held, holding, begunBy, Sound, isSound, passed, restOf, huntGives, HuntOutcome, hunted}
+use Rattle.stream.specs.Hunter.{held, holding, noHunter, begunBy, Sound, isSound, passed, restOf, huntGives, HuntOutcome, hunted}
 use Rattle.stream.specs.Feed.{Fed, feedAll, lastOf}
-use Rattle.stream.specs.Plainly.{FramesAt, frameAt}
+use Rattle.stream.specs.Plainly.{MarkerAt, FramesAt, frameAt, SoundPlainly, AllZero}
 use Rattle.stream.specs.Promises.{Promises, Call, after, InStep, Begins, Answers, Takes, NothingLost}
 use Rattle.stream.proofs.Cutting.{waits-is, whole-is, is-few, is-whole, marked-append, cuts, cut-is, joined, counted}
-use Rattle.stream.proofs.Sounding.{sound-holding, decides-sound, sound-size, zero-unsound}
+use Rattle.stream.proofs.Sounding.{sound-holding, is-sound, sound-is, decides-sound, sound-size, zero-unsound}
 use Rattle.stream.proofs.Feeding.{roomless, unsound, rest-stays, hunts-whole, hunts-waits, righted-length, all-right, fed-right}
-use Rattle.stream.proofs.Places.{stream-plainly, places-once, all-exact}
+use Rattle.stream.proofs.Places.{decides-marker, stream-plainly, places-once, all-exact}
 
 -- ---- begin
 
@@ -170,6 +173,31 @@ sound-after h (c ∷ cs) s = sound-after (hunted h (c .portion) (c .buffer) .hun
 begun-sound : (k : ℕ) → k ≤ 3 → Sound (begunBy k .hunter)
 begun-sound k l = rw (begun-is k l) (sound-holding k [] l (none-waits k))
 
+-- ---- soundness, field by field
+
+module _ (h : Hunter) (size : length (h .octets) ≡ 1024) (o : Octets (h .octets)) where
+  marker-first : Decides (MarkerAt (h .k) (h .octets) 0) (isMarker (h .k) (h .octets))
+  marker-first = decides-marker (h .k) (h .octets) o 0 (omega arith)
+
+  zero-at : allZero (drop (h .waiting) (h .octets)) ≡ true → (i : ℕ) → h .waiting ≤ i → getD (h .octets) i 0 ≡ 0
+  zero-at z i l =
+      let p : h .waiting + (i - h .waiting) ≡ i = omega arith in
+      sym (getD-drop (h .waiting) (h .octets) (i - h .waiting) 0 ∙ ap (λ (n : ℕ). getD (h .octets) n 0) p)
+      ∙ blank-at (drop (h .waiting) (h .octets)) (i - h .waiting) z
+
+  plain-of : Sound h → SoundPlainly h
+  plain-of s =
+      let ((((b, k), w), m), z) = sound-is h size s in
+      record { begun = b; limit = k; few = omega arith; marked = ⊎-elim inl (λ t. inr (told-true marker-first t)) m; zeros = zero-at z }
+
+  of-plain : SoundPlainly h → Sound h
+  of-plain p =
+      is-sound h size (p .begun) (p .limit) (omega (arith, p .few)) (⊎-elim inl (λ m. inr (tells marker-first m)) (p .marked))
+      (all-blank (drop (h .waiting) (h .octets)) (λ i l. getD-drop (h .waiting) (h .octets) i 0 ∙ p .zeros (h .waiting + i) (omega arith)))
+
+zero : AllZero noHunter
+zero = record { begun = refl; k = refl; waiting = refl; octets = λ i. blank-at (replicate 1024 0) i (allZero-replicate 1024) }
+
 -- ---- however the stream is divided
 
 divided : (k : ℕ) (xs : List (List ℕ)) (buffer : List ℕ) → k ≤ 3 → length buffer ≡ 1024
@@ -258,7 +286,9 @@ unfolding framesOf
 promises =
     record {
       begins = begins;
+      zero = zero;
       zero-unsound = zero-unsound;
+      sound-plainly = λ h size o. (plain-of h size o, of-plain h size o);
       answers = answers;
       takes = takes;
       sound = λ k l cs. sound-after (begunBy k .hunter) cs (begun-sound k l);

@@ -70,7 +70,7 @@ module _ (h : Hunter) where
     unfolding isMarker wrongBits
     held-marker l = rw (take-take 4 (h .waiting) (h .octets) l)
 
-    is-sound : h .begun ≡ true → h .k ≤ 3 → h .waiting < 1024 → (h .waiting < 4) ⊎ (isMarker (h .k) (h .octets) ≡ true)
+    pub is-sound : h .begun ≡ true → h .k ≤ 3 → h .waiting < 1024 → (h .waiting < 4) ⊎ (isMarker (h .k) (h .octets) ≡ true)
         → allZero (drop (h .waiting) (h .octets)) ≡ true → Sound h
     unfolding holding
     is-sound b k w m z =
@@ -95,7 +95,7 @@ module _ (h : Hunter) where
             let n : length (held h) ≡ h .waiting = held-length (omega arith) in
             is-few (h .k) (held h) (omega arith)
 
-    sound-is : Sound h
+    pub sound-is : Sound h
         → ((((h .begun ≡ true) × (h .k ≤ 3)) × (h .waiting < 1024)) × ((h .waiting < 4) ⊎ (isMarker (h .k) (h .octets) ≡ true)))
         × (allZero (drop (h .waiting) (h .octets)) ≡ true)
     unfolding holding

@@ -1,5 +1,7 @@
--- The stream in other words: by the places of its frames, each at the first marker behind the frame before it. Assumes nothing.
+-- The stream in other words: by the places of its frames, each at the first marker behind the frame before it; and the hunter, octet by octet.
+-- Assumes nothing.
 use mathlib.Core.Path.{_≡_}
+use mathlib.Core.Bool.{true, false}
 use mathlib.Core.List.{List, [], _∷_, _++_, map}
 use mathlib.Core.Logic.{_⊎_}
 use Prim.Native.Nat.{ℕ, _+_, _≤_, _<_}
@@ -7,6 +9,7 @@ use lib.Bits.{bitXor}
 use lib.Count.{ones}
 use lib.ListN.{length, getD, drop}
 use Rattle.octets.specs.Number.{part}
+use Rattle.stream.specs.declared.Hunter.{Hunter}
 use Rattle.stream.specs.Stream.{framesOf, waitingOf}
 
 -- the wrong bits of one octet
@@ -43,3 +46,18 @@ pub record StreamPlainly (k : ℕ) (xs : List ℕ) : Type 0 where
   pub stands : FramesAt k xs 0 places rest
   pub frames : framesOf k xs ≡ map (frameAt xs) places
   pub waiting : waitingOf k xs ≡ drop rest xs
+
+-- a sound hunter, field by field and octet by octet
+pub record SoundPlainly (h : Hunter) : Type 0 where
+  pub begun : h .begun ≡ true
+  pub limit : h .k ≤ 3
+  pub few : h .waiting ≤ 1023
+  pub marked : (h .waiting < 4) ⊎ MarkerAt (h .k) (h .octets) 0
+  pub zeros : (i : ℕ) → h .waiting ≤ i → getD (h .octets) i 0 ≡ 0
+
+-- "all zero"
+pub record AllZero (h : Hunter) : Type 0 where
+  pub begun : h .begun ≡ false
+  pub k : h .k ≡ 0
+  pub waiting : h .waiting ≡ 0
+  pub octets : (i : ℕ) → getD (h .octets) i 0 ≡ 0

@@ -14,7 +14,7 @@ use Rattle.stream.specs.declared.Hunter.{Hunter}
 use Rattle.stream.specs.Stream.{Cuts, cut, octetsIn, overIn, framesOf, waitingOf}
 use Rattle.stream.specs.Hunter.{held, holding, noHunter, begunBy, Sound, huntGives, hunted}
 use Rattle.stream.specs.Feed.{feedAll, lastOf}
-use Rattle.stream.specs.Plainly.{FramesAt, StreamPlainly}
+use Rattle.stream.specs.Plainly.{FramesAt, StreamPlainly, SoundPlainly, AllZero}
 
 -- a call of a run: a portion, and the buffer lent
 pub record Call : Type 0 where
@@ -61,7 +61,10 @@ pub record NothingLost (k : ℕ) (xs : List ℕ) : Type 0 where
 pub record Promises : Type 0 where
   pub begins : (k : ℕ) → Begins k
   -- "and then the hunter is all zero, which is not sound"
+  pub zero : AllZero noHunter
   pub zero-unsound : Sound noHunter → ⊥
+  -- what a sound hunter is, once more in its octets
+  pub sound-plainly : (h : Hunter) → length (h .octets) ≡ 1024 → Octets (h .octets) → Sound h ↔ SoundPlainly h
   pub answers : (h : Hunter) (xs buffer : List ℕ) → length (h .octets) ≡ 1024 → Answers h xs buffer
   pub takes : (h : Hunter) (xs buffer : List ℕ) → length buffer ≡ 1024 → Sound h → Takes h xs buffer
   -- a sound hunter stays sound; "from `begin` answered by 0, with the hunter handed back, no hunt is answered by 2"
