@@ -7,7 +7,7 @@ use Prim.Native.Nat.{ℕ, zero, suc, _+_, _/_, _%_, _≤_, _<_}
 use native.Mathlib.Omega.{arith}
 use borrow.Author.Tests.{eq-eqb, le-leb, ltb-true}
 use lib.Dec.{ltb}
-use lib.ListN.{length, getD, set, replicate, length-append, length-replicate}
+use lib.ListN.{length, drop, getD, set, replicate, length-append, length-replicate}
 use Rattle.transport.specs.declared.Transport.{Transport}
 use Rattle.transport.specs.Length.{goodLength, octetsOfBits, transportSize, need, rest}
 use Rattle.records.specs.declared.HeaderAnswer.{HeaderAnswer}
@@ -25,6 +25,7 @@ use Rattle.noise.proofs.Mixing.{octets-mixed}
 use Rattle.room.specs.Find.{freeFrom, fileFrom}
 use Rattle.room.specs.Move.{letGo}
 use Rattle.events.specs.Event.{Event, of, at}
+use Rattle.judge.specs.Judge.{dataOf}
 use Rattle.judge.specs.Packets.{Starts}
 use Rattle.zone.specs.Zone.{split}
 use Rattle.zone.specs.Walk.{deskAfter, gap}
@@ -39,13 +40,13 @@ use Rattle.history.specs.Things.{said}
 use Rattle.history.specs.Things.Thing.{packet, left}
 use Rattle.history.specs.Store.{Moment}
 use Rattle.history.proofs.Sound.{fresh-sound, world-sound, after-sound}
-use Rattle.guards.specs.Sent.{Program, plain, sentOn, sent, tenFramesOn, tenFrames, allSaid, checked, long, first, middle, tiny, last, fill, wholeOf, whole, damaged, reserved, primary, headerAlone}
-use Rattle.guards.specs.Guards.{noneTouched, goodHeader, headerRead, twoBlocks, threeBlocks, fiveBlocks, sevenBlocks, published, twoPackets, oneLost, heldFile, needsTwo, needsThree, needsSeven, freedAtOnce, lowerSlot, twoChannels, Runs, Guards}
+use Rattle.guards.specs.Sent.{Program, plain, sentOn, sent, tenFramesOn, tenFrames, allSaid, checked, long, first, middle, tiny, last, fill, wholeOf, whole, damaged, reserved, primary, twelveBits}
+use Rattle.guards.specs.Guards.{noneTouched, goodHeader, partOfAnOctet, readOut, headerRead, twoBlocks, threeBlocks, fiveBlocks, sevenBlocks, published, twoPackets, oneLost, heldFile, needsTwo, needsThree, needsSeven, freedAtOnce, lowerSlot, twoChannels, Runs, Guards}
 use Rattle.guards.proofs.Sending.{accepts, cut, ListensOn, Listens, MakesOn, Makes, makes-none, step, brings-packets, BringsOn, Brings}
 use Rattle.guards.proofs.Losses.{fresh-is, loss-runs}
 use Rattle.guards.proofs.Making.{MakesOneOn, MakesOne, makes-then}
 use Rattle.guards.proofs.ReadOut.{read-out}
-use Rattle.guards.proofs.Packets.{odd-cuts, damaged-makes, reserved-makes, ill-makes, header-cuts, header-head, header-starts, header-opens, whole-starts, sixOf, headOf, header-look, fileOn, fileAt, ten, bits, long-size, carries, first-opens, first-refused, middle-adds, last-adds, last-ends, tiny-stray, tiny-before, tiny-ends, fill-makes, fill-size, fill-cuts, last-cuts, whole-cuts, whole-head, whole-opens, whole-over}
+use Rattle.guards.proofs.Packets.{odd-cuts, damaged-makes, reserved-makes, ill-makes, Alone, written, whole-starts, sixOf, headOf, header-look, fileOn, fileAt, ten, bits, long-size, carries, first-opens, first-refused, middle-adds, last-adds, last-ends, tiny-stray, tiny-before, tiny-ends, fill-makes, fill-size, fill-cuts, last-cuts, whole-cuts, whole-head, whole-opens, whole-over}
 
 -- calls before calls
 run-then : (w : World) (cs ds : List Call) → run w (cs ++ ds) ≡ run (run w cs) ds
@@ -173,14 +174,19 @@ module _ (list : List ℕ) (listed : 900 ≤ length list) where
       let (v, t) = step L low 0 (inl (omega arith)) zone list size listed zone (reading-first zone) ps [] cuts (n + 1) refl does in
       record { listens = v; tells = append-nil (said w (frame (sentOn c n 0 zone) list)) ∙ t }
 
-  -- a whole packet with nothing but fill behind it
+  -- a packet with nothing but fill behind it
+  filled-brings : (n : ℕ) → n < 256 → (q : List ℕ) (m : ℕ) → 9 ≤ m → length q + m ≡ 884 → split (q ++ fill m) ≡ cut (q ∷ fill m ∷ []) []
+      → {c : ℕ} {xs ys : List Slot} {es : List Event} → MakesOneOn c xs q ys es
+      → (w : World) → ListensOn c w n [] xs → BringsOn c w (frame (sentOn c n 0 (q ++ fill m)) list ∷ []) (n + 1) ys es
+  filled-brings n few q m some size cuts {c} {xs} {ys} {es} does =
+      one-brings n few (q ++ fill m) (omega (arith, length-append q (fill m), fill-size m some (omega arith))) (q ∷ fill m ∷ []) cuts
+      (subst (MakesOn c xs (q ∷ fill m ∷ []) ys) (append-nil es)
+      (makes-then does (makes-then (fill-makes m some (omega arith) ys) (makes-none ys))))
+
+  -- a whole packet of one octet
   whole-brings : (a n : ℕ) → a < 256 → n < 256 → {c : ℕ} {xs ys : List Slot} {es : List Event} → MakesOneOn c xs (wholeOf a) ys es
       → (w : World) → ListensOn c w n [] xs → BringsOn c w (frame (sentOn c n 0 (wholeOf a ++ fill 865)) list ∷ []) (n + 1) ys es
-  whole-brings a n low few {c} {xs} {ys} {es} does =
-      one-brings n few (wholeOf a ++ fill 865) (omega (arith, length-append (wholeOf a) (fill 865), fill-size 865 (omega arith) (omega arith)))
-      (wholeOf a ∷ fill 865 ∷ []) (whole-cuts 865 (omega arith) (omega arith) a low)
-      (subst (MakesOn c xs (wholeOf a ∷ fill 865 ∷ []) ys) (append-nil es)
-      (makes-then does (makes-then (fill-makes 865 (omega arith) (omega arith) ys) (makes-none ys))))
+  whole-brings a n low few = filled-brings n few (wholeOf a) 865 (omega arith) refl (whole-cuts 865 (omega arith) (omega arith) a low)
 
   opens-five : MakesOne none (first 5 fiveBlocks) (fileAt 5 fiveBlocks 0 ∷ others) (at 10 5 0 ∷ [])
   unfolding goodLength need transportSize octetsOfBits fileFrom freeFrom ofPair incomplete held needs
@@ -328,6 +334,22 @@ module _ (list : List ℕ) (listed : 900 ≤ length list) where
         (makes-then (ill-makes none refl) (makes-then (fill-makes 856 (omega arith) (omega arith) none) (makes-none none)))))
         (fresh x) (fresh-listens x p)
 
+    twelve-brings : Brings (fresh x) (partOfAnOctet list) 1 (fileAt 5 12 0 ∷ others) (at 10 5 0 ∷ at 12 5 0 ∷ [])
+    twelve-brings =
+        filled-brings 0 (omega arith) twelveBits 864 (omega arith) refl (written .1 .cuts 864 (omega arith) (omega arith)) (written .1 .opens)
+        (fresh x) (fresh-listens x p)
+
+    -- the file of a whole packet, read out
+    out : {q : List ℕ} {L l : ℕ} → Alone q L l → need L ≡ 1 → (n : ℕ) → 9 ≤ n → length q + n ≡ 884
+        → readOut x (frame (sent 0 0 (q ++ fill n)) list ∷ []) ≡ drop 10 (flatten (dataOf q ∷ []))
+    out {q} {L} {l} a one n some size =
+        read-out x L l n q list listed (omega (arith, length-append q (fill n), fill-size n some (omega arith)))
+        (a .cuts n some (omega arith)) some (omega arith) one (a .head) (a .starts) (a .opens) (fresh-listens x p)
+
+    twelve-out : readOut x (partOfAnOctet list) ≡ 0xab ∷ 0xcf ∷ []
+    unfolding need transportSize octetsOfBits flatten
+    twelve-out = out (written .1) refl 864 (omega arith) refl
+
     -- a file of one octet, whose header is refused, and one that is all header
     header-short : headerRead x (published list) ≡ refusedHeader 20
     unfolding need transportSize octetsOfBits fileFrom freeFrom ofPair incomplete held needs flatten
@@ -341,11 +363,7 @@ module _ (list : List ℕ) (listed : 900 ≤ length list) where
 
     header-good : headerRead x (goodHeader list) ≡ readHeader primary
     unfolding need transportSize octetsOfBits flatten
-    header-good =
-        ap readHeader
-        (read-out x 128 27 850 headerAlone list listed
-        (omega (arith, length-append headerAlone (fill 850), fill-size 850 (omega arith) (omega arith))) (header-cuts 850 (omega arith) (omega arith))
-        (omega arith) (omega arith) refl header-head header-starts header-opens (fresh-listens x p))
+    header-good = ap readHeader (out (written .0) refl 850 (omega arith) refl)
 
     runs : Runs x list
     unfolding complete held need transportSize octetsOfBits
@@ -361,6 +379,8 @@ module _ (list : List ℕ) (listed : 900 ≤ length list) where
           freed-at-once = frees-at-once .tells;
           lower-slot = takes-lower .tells;
           none-touched = touches-none .tells;
+          twelve-bits = twelve-brings .tells;
+          twelve-read = twelve-out;
           header-refused = header-short;
           header-read = ap (λ (r : HeaderAnswer). r .read) (header-good ∙ alone-read);
           two-channels = strays .tells;

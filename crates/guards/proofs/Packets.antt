@@ -6,6 +6,7 @@ use mathlib.Core.List.{List, [], _∷_, _++_, append-assoc}
 use Prim.Native.Nat.{ℕ, _+_, _-_, _*_, _/_, _%_, _≤_, _<_}
 use native.Mathlib.Omega.{arith}
 use borrow.Author.Tests.{eq-eqb, ne-eqb, le-ltb}
+use lib.Dec.{eqb}
 use lib.ListN.{length, take, drop, set, replicate, length-append, length-replicate, drop-of-length-le}
 use lib.Seq.{take-all, take-at, drop-at, take-append-le}
 use Rattle.octets.specs.Number.{number, numberAt, bitsAt, part}
@@ -35,7 +36,7 @@ use Rattle.zone.proofs.Split.{split-short, split-whole}
 use Rattle.station.specs.SetUp.{channelOf}
 use Rattle.history.specs.Run.{World}
 use Rattle.history.proofs.Turns.{false-unless}
-use Rattle.guards.specs.Sent.{tenFramesOn, checked, long, first, middle, tiny, last, fill, wholeOf, damaged, reserved, headerAlone}
+use Rattle.guards.specs.Sent.{tenFramesOn, checked, long, first, middle, tiny, last, fill, wholeOf, damaged, reserved, headerAlone, twelveBits}
 use Rattle.guards.proofs.Sending.{cut, ListensOn, MakesOn, BringsOn, ten-bring}
 use Rattle.guards.proofs.Making.{MakesOneOn, MakesOne, makes-fill, makes-other, makes-damaged, makes-wrong, makes-open, makes-refused, makes-over, makes-stray, makes-more, makes-end}
 
@@ -306,9 +307,6 @@ module _ (n : ℕ) (some : 9 ≤ n) (most : n ≤ 884) where
   pub whole-cuts : (a : ℕ) → a < 256 → split (wholeOf a ++ fill n) ≡ cut (wholeOf a ∷ fill n ∷ []) []
   whole-cuts a low = one-cut (wholeOf a) (whole-look a 12 low (omega arith) (omega arith) (drop 6 (wholeOf a) ++ fill n)) refl
 
-  pub header-cuts : split (headerAlone ++ fill n) ≡ cut (headerAlone ∷ fill n ∷ []) []
-  header-cuts = one-cut headerAlone (whole-look 5 27 (omega arith) (omega arith) (omega arith) (drop 6 headerAlone ++ fill n)) refl
-
 -- the whole packet of a file of one octet
 module _ (a : ℕ) (low : a < 256) where
   pub whole-head : headOf a 3 0 12 ≡ packetOf (wholeOf a)
@@ -338,24 +336,35 @@ module _ (a : ℕ) (low : a < 256) where
     whole-over j here free fits =
         makes-over (wholeOf a) (part 6 11 (wholeOf a)) (headOf a 3 0 12) whole-head refl xs whole-intact (inr refl) whole-right here free fits
 
--- the whole packet of a file that is all header
-pub header-head : headOf 5 3 0 27 ≡ packetOf headerAlone
-header-head = whole-is 5 27 (omega arith) (omega arith) (omega arith) (drop 6 headerAlone)
+-- a whole packet of application 5 for a file of L bits: how it is read, and what it makes of a station without files
+pub record Alone (p : List ℕ) (L l : ℕ) : Type 0 where
+  pub head : headOf 5 3 0 l ≡ packetOf p
+  pub starts : Starts p (bits L)
+  pub opens : MakesOne (replicate 32 noFile) p (fileAt 5 L 0 ∷ replicate 31 noFile) (at 10 5 0 ∷ at 12 5 0 ∷ [])
+  pub cuts : (n : ℕ) → 9 ≤ n → n ≤ 884 → split (p ++ fill n) ≡ cut (p ∷ fill n ∷ []) []
 
-pub header-starts : Starts headerAlone (bits 128)
-unfolding crcOf crcFrom octet shifted bit number numberAt begunOf transportOf goodLength wholeFits need transportSize octetsOfBits
-header-starts =
+-- one with the header of length l, behind which stands xs
+alone : (l : ℕ) → 2 ≤ l → l ≤ 8191 → (xs : List ℕ) → let p = sixOf 0 5 3 0 l ++ xs in (L : ℕ) → begunOf 3 (dataOf p) ≡ Right (bits L) → need L ≤ 7
+    → eqb (crcOf (dataOf p)) (checkOf p) ≡ true → length p ≡ 7 + l → Alone p L l
+unfolding fileFrom freeFrom ofPair incomplete held needs
+alone l two ls xs L right fits check size =
+    let p = sixOf 0 5 3 0 l ++ xs in
+    let head : headOf 5 3 0 l ≡ packetOf p = whole-is 5 l (omega arith) two ls xs in
+    let intact : Undamaged p = record { file = rw (← head) (omega arith); intact = check } in
     record {
-      undamaged = record { file = rw (← header-head) (omega arith); intact = refl };
-      starting = rw (← header-head) (inr refl);
-      right = rw (← header-head) refl;
+      head = head;
+      starts = record { undamaged = intact; starting = rw (← head) (inr refl); right = rw (← head) right };
+      opens = makes-open p (dataOf p) (headOf 5 3 0 l) head refl (replicate 32 noFile) intact (inr refl) {t = bits L} right refl refl (omega arith);
+      cuts = λ n some most. one-cut n some most p (whole-look 5 l (omega arith) two ls (xs ++ fill n)) size;
     }
 
-pub header-opens : MakesOne (replicate 32 noFile) headerAlone (fileAt 5 128 0 ∷ replicate 31 noFile) (at 10 5 0 ∷ at 12 5 0 ∷ [])
-unfolding number numberAt begunOf transportOf goodLength wholeFits need transportSize octetsOfBits fileFrom freeFrom ofPair incomplete held needs
-header-opens =
-    makes-open headerAlone (part 6 26 headerAlone) (headOf 5 3 0 27) header-head refl (replicate 32 noFile) (header-starts .undamaged) (inr refl)
-    {t = bits 128} refl refl refl (omega arith)
+-- that of a file that is all header, and that of a file of 12 bits
+pub written : Alone headerAlone 128 27 × Alone twelveBits 12 13
+unfolding crcOf crcFrom octet shifted bit number numberAt begunOf transportOf goodLength wholeFits need transportSize octetsOfBits
+written = (
+  alone 27 (omega arith) (omega arith) (drop 6 headerAlone) 128 refl (omega arith) refl refl,
+  alone 13 (omega arith) (omega arith) (drop 6 twelveBits) 12 refl (omega arith) refl refl,
+)
 
 -- packets that touch no file: a wrong check, a reserved application, and a first packet of one octet
 pub odd-cuts : split (damaged ++ (reserved ++ (tiny 1 5 0 ++ fill 856))) ≡ cut (damaged ∷ reserved ∷ tiny 1 5 0 ∷ fill 856 ∷ []) []

@@ -23,7 +23,7 @@ use Rattle.history.specs.Calls.{resultOf}
 use Rattle.history.specs.Store.{Moment}
 use Rattle.history.specs.Headers.{wholeRead}
 use Rattle.guards.specs.Losses.{LossRuns}
-use Rattle.guards.specs.Sent.{Program, sent, tenFramesOn, tenFrames, allSaid, first, middle, tiny, last, fill, wholeOf, whole, damaged, reserved, headerAlone}
+use Rattle.guards.specs.Sent.{Program, sent, tenFramesOn, tenFrames, allSaid, first, middle, tiny, last, fill, wholeOf, whole, damaged, reserved, headerAlone, twelveBits}
 
 -- the lengths of these files in bits: N = 2, 3, 5 and 7, and the last packet has one octet
 abbrev pub twoBlocks : ℕ
@@ -96,9 +96,16 @@ noneTouched list = frame (sent 0 0 (damaged ++ (reserved ++ (tiny 1 5 0 ++ fill 
 abbrev pub goodHeader : List ℕ → List Call
 goodHeader list = frame (sent 0 0 (headerAlone ++ fill 850)) list ∷ []
 
--- what the header reader says of the file in slot 0 once it is read out
+-- "The case L = 12 changes to N = 1 with 12 octets of data" (02, 2/14)
+abbrev pub partOfAnOctet : List ℕ → List Call
+partOfAnOctet list = frame (sent 0 0 (twelveBits ++ fill 864)) list ∷ []
+
+-- the file in slot 0 read out, and what the header reader says of it
+abbrev pub readOut : Start → List Call → List ℕ
+readOut x cs = resultOf (run (fresh x) cs) (wholeRead (run (fresh x) cs) 0)
+
 abbrev pub headerRead : Start → List Call → HeaderAnswer
-headerRead x cs = readHeader (resultOf (run (fresh x) cs) (wholeRead (run (fresh x) cs) 0))
+headerRead x cs = readHeader (readOut x cs)
 
 -- what these runs give, from any set-up of the program and with any list of the size that is asked for
 pub record Runs (x : Start) (list : List ℕ) : Type 0 where
@@ -113,6 +120,9 @@ pub record Runs (x : Start) (list : List ℕ) : Type 0 where
   pub lower-slot : allSaid (fresh x) (lowerSlot list) ≡ at 10 4 0 ∷ at 12 4 0 ∷ at 10 5 1 ∷ at 6 5 1 ∷ at 10 5 0 ∷ at 12 5 0 ∷ []
   pub two-channels : allSaid (fresh x) (twoChannels list) ≡ at 10 5 0 ∷ of 5 5 ∷ []
   pub none-touched : allSaid (fresh x) (noneTouched list) ≡ of 4 5 ∷ of 13 2016 ∷ of 7 5 ∷ []
+  pub twelve-bits : allSaid (fresh x) (partOfAnOctet list) ≡ at 10 5 0 ∷ at 12 5 0 ∷ []
+  -- its octets, with the bits that fill up the last one as they came
+  pub twelve-read : readOut x (partOfAnOctet list) ≡ 0xab ∷ 0xcf ∷ []
   -- "20: header: fewer than 16 octets": the published file has one
   pub header-refused : headerRead x (published list) ≡ refusedHeader 20
   pub header-read :

@@ -68,8 +68,8 @@ module _ (p : List ℕ) where
       let r : RightStart (packetOf p .flags) (dataOf p) (transportOf (dataOf p)) =
       subst (RightStart (packetOf p .flags) (dataOf p)) (start-is g) (begun-right (packetOf p .flags) (dataOf p) (g .right)) in
       let shape : Shape p = ⊎-elim inl (λ (three, size, one). inr (three, size ∙ size-sum (bitsIn p), one)) (r .shape) in
-      let (some, octets) = told-true (length-plainly (bitsIn p)) (r .good) in
-      record { undamaged = g .undamaged; begun = record { ten = r .long; some = some; octets = octets; shape = shape } }
+      let some : bitsIn p ≡ 0 → ⊥ = told-true (length-plainly (bitsIn p)) (r .good) in
+      record { undamaged = g .undamaged; begun = record { ten = r .long; some = omega (arith, some); shape = shape } }
 
   well-right : WellBegun p → begunOf (packetOf p .flags) (dataOf p) ≡ Right (transportOf (dataOf p))
   well-right w =
@@ -77,7 +77,7 @@ module _ (p : List ℕ) where
       (record {
         long = w .ten;
         is = refl;
-        good = tells (length-plainly (bitsIn p)) (w .some, w .octets);
+        good = tells (length-plainly (bitsIn p)) (omega (arith, w .some));
         shape = ⊎-elim inl (λ (three, size, one). inr (three, size ∙ sym (size-sum (bitsIn p)), one)) (w .shape);
         few = ⊎-elim (λ (_, size, _). omega arith) (λ (_, size, one). omega (arith, need-covers (bitsIn p), size-sum (bitsIn p))) (w .shape);
         some = ⊎-elim (λ (_, _, two). omega arith) (λ (_, _, one). omega arith) (w .shape);

@@ -4,7 +4,7 @@ use mathlib.Core.Path.{_≡_}
 use mathlib.Core.Bool.{true, false}
 use mathlib.Core.Logic.{_⊎_, _↔_}
 use mathlib.Core.List.{List, [], _∷_}
-use Prim.Native.Nat.{ℕ, _+_, _%_, _≤_, _<_}
+use Prim.Native.Nat.{ℕ, _+_, _≤_, _<_}
 use lib.ListN.{length}
 use Rattle.crc.specs.Crc.{crcOf}
 use Rattle.frame.specs.declared.Channel.{Channel}
@@ -42,11 +42,10 @@ Shape p =
     ((packetOf p .flags ≡ 1) × (length (dataOf p) ≡ 8190) × (2 ≤ needIn p))
     ⊎ ((packetOf p .flags ≡ 3) × (length (dataOf p) ≡ 10 + octetsOfBits (bitsIn p)) × (needIn p ≡ 1))
 
--- not "Event 7 if the data is under 10 octets, the 64-bit bit length L .. is 0 or not a multiple of 8, or the shape is wrong"
+-- not "Event 7 if the data is under 10 octets, the 64-bit bit length L .. is 0 .., or the shape is wrong" (01; 02, 2/14)
 pub record WellBegun (p : List ℕ) : Type 0 where
   pub ten : 10 ≤ length (dataOf p)
   pub some : bitsIn p ≡ 0 → ⊥
-  pub octets : bitsIn p % 8 ≡ 0
   pub shape : Shape p
 
 -- a slot is free for a packet that starts a file, if it is not held, or held by the older file of the pair, which is abandoned before

@@ -168,3 +168,6 @@ rounded-up bits =
     if-cases (λ (one : ℕ). (bits ≤ 8 * (bits / 8 + one)) × (8 * (bits / 8 + one) < bits + 8)) (eqb (bits % 8) 0)
     (λ whole. let none : bits % 8 ≡ 0 = eqb-true (bits % 8) 0 whole in (omega arith, omega arith))
     (λ rest. let some = eqb-false (bits % 8) 0 rest in (omega (arith, some), omega arith))
+
+pub rounded-only : (bits r : ℕ) → bits ≤ 8 * r → 8 * r < bits + 8 → r ≡ roundedUp bits
+rounded-only bits r all few = omega (arith, rounded-up bits)

@@ -29,7 +29,7 @@ pub record SetUp (s : Station) : Type 0 where
   pub least : s .blocks ≤ 4096
 
 -- a held slot: "has accepted p packets, 1 to N, being complete exactly if p = N; its channel is watched, its application is at most 2015,
--- its length is nonzero, a multiple of 8 and gives N; its last count is below 16,384", and its N places are there
+-- its length is nonzero .. and gives N; its last count is below 16,384" (01; 02, 2/14), and its N places are there
 pub record HeldSlot (s : Station) (k : ℕ) : Type 0 where
   pub accepted : slotAt s k .accepted ≤ needOf (slotAt s k)
   pub watched : (i : ℕ) × (i < s .channels) × (getD (named s) i 0 ≡ slotAt s k .channel .0)

@@ -38,7 +38,7 @@ fits flags n L p last c =
     else if eqb flags 2 then lastFits n L p last c
     else false
 
--- "Event 7 if the data is under 10 octets, the 64-bit bit length L .. is 0 or not a multiple of 8, or the shape is wrong."
+-- "Event 7 if the data is under 10 octets, the 64-bit bit length L .. is 0 .., or the shape is wrong." (01; 02, 2/14)
 unfoldable pub begunOf : ℕ → List ℕ → Begun
 begunOf flags d =
     if ltb (length d) 10 then Wrong

@@ -37,17 +37,14 @@ impl Transport {
 pub fn good_length(bits: u64) -> bool
     ensures { λ r. ⌜ r ≡ goodLength bits ⌝ }
 {
-    if bits == 0 {
-        return false;
-    }
-    bits % 8 == 0
+    bits != 0
 }
 
 // The octets of a file of this length.
 pub fn octets_of_bits(bits: u64) -> u64
     ensures { λ r. ⌜ (r ≡ octetsOfBits bits) × (r ≤ 2305843009213693952) ⌝ }
 {
-    bits / 8
+    octets::rounded_up(bits)
 }
 
 // The octets of the file with its transport header.

@@ -51,8 +51,7 @@ noiseText from number =
 unfoldable pub crcText : List ℕ → List ℕ
 crcText q = ascii "C " ++ digits 16 4 (crcOf q)
 
--- L: "`L bad` if L is 0 or not a multiple of 8; else `L need last`: the need N, and the octets of data in the file's last packet (of its only
--- one if N is 1)"
+-- L: "`L bad` if L is 0; else `L need last`: the need N, and the octets of data in the file's last packet (of its only one if N is 1)"
 unfoldable pub lengthText : ℕ → List ℕ
 lengthText L = if goodLength L then ascii "L" ++ spaced (need L) ++ spaced (rest L) else ascii "L bad"
 

@@ -128,6 +128,12 @@ impl File {
         }
     }
 
+    /// The same octets, of whose last one so many bits, 0 to 7, only fill it up.
+    pub fn with_filler(self, bits: u64) -> File {
+        let bit_length = self.bit_length.saturating_sub(bits);
+        File { bit_length, ..self }
+    }
+
     /// A file of a need of `need` blocks, the last one full; octet k is k modulo 251.
     pub fn of_need(channel: Channel, application: Application, need: usize) -> File {
         let size = (need * BLOCK_SIZE).saturating_sub(HEADER_SIZE);

@@ -218,12 +218,25 @@ fn new_file(chance: &mut Chance, taste: Taste) -> Vec<Vec<u8>> {
     packets_of(chance, &octets)
 }
 
-/// A file's octets as packets of some application, counted from anywhere on.
-pub fn packets_of(chance: &mut Chance, octets: &[u8]) -> Vec<Vec<u8>> {
+/// A file's octets as packets of some application, counted from anywhere on. Now and then the
+/// whole or last one has an octet too few or too many for the bit length.
+fn packets_of(chance: &mut Chance, octets: &[u8]) -> Vec<Vec<u8>> {
     let counter = chance.number() as u16;
     let channel = crate::model::frame::Channel(0);
     let file = make::File::of(channel, application(chance), counter, octets);
+    let mut file = file.with_filler(filler(chance));
+    if chance.one_in(16) {
+        let size = file.octets.len() - 1 + chance.pick(&[0, 2]);
+        file.octets.resize(size, 0xff);
+    }
     file.packets(count(chance))
+}
+
+/// The bits that fill up a file's last octet: of three files in ten the length is no multiple of
+/// 8. The octets are by chance, and these bits with them.
+pub fn filler(chance: &mut Chance) -> u64 {
+    let bits = chance.between(1, 7);
+    chance.weighted(&[(7, 0), (3, bits)])
 }
 
 /// Octets of a file of two to four packets, the last one short more often than not.
@@ -238,24 +251,28 @@ fn long(chance: &mut Chance) -> u64 {
 fn too_long(chance: &mut Chance) -> Vec<u8> {
     let blocks = chance.pick(&[4, 8, 65, 4096, 4097, 65_537, 1 << 40]);
     let length = (blocks * BLOCK_SIZE as u64 - 10) * 8;
-    let length = chance.pick(&[length, length, u64::MAX - 7]);
+    let length = chance.pick(&[length, length - 7, length + 1, u64::MAX - 7, u64::MAX]);
     let mut data = chance.octets(BLOCK_SIZE);
     data[2..10].copy_from_slice(&length.to_be_bytes());
     PacketFields::plain(application(chance), Flags::First, count(chance)).packet(&data)
 }
 
-/// A first or whole packet that gives event 7, or nearly does.
+/// A first or whole packet that gives event 7, or nearly does: its bit length is the greatest or
+/// the least for its octets, or of an octet less or more, or any other.
 fn bad_start(chance: &mut Chance) -> Vec<u8> {
     let size = chance.pick(&[1, 9, 10, 11, 12, 40]);
     let right = (size as u64).saturating_sub(10) * 8;
-    let less = right.saturating_sub(8);
+    let [least, less] = [7, 8].map(|bits| right.saturating_sub(bits));
     let lengths = [
         right,
+        least,
         less,
+        right + 1,
         right + 8,
         right + 4,
         0,
         12,
+        65_441,
         65_448,
         chance.number(),
     ];

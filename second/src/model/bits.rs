@@ -27,6 +27,12 @@ pub fn octets_of(bits: &[bool]) -> Vec<u8> {
         .collect()
 }
 
+/// So many bits "rounded up to octets" (01, the answer 26): the last octet is filled up "with 0 to
+/// 7 bits" (02, 2/14). In 128 bits no sum can overflow.
+pub fn rounded_up_to_octets(bits: u64) -> u128 {
+    u128::from(bits).div_ceil(8)
+}
+
 /// Fields cut off a string of bits one after the other.
 pub struct Fields {
     bits: Vec<bool>,
@@ -65,6 +71,22 @@ mod tests {
         let octets = [0x1a, 0xcf, 0xfc, 0x1d, 0x00, 0xff];
         assert_eq!(octets_of(&string_of(&octets)), octets);
         assert_eq!(octets_of(&[true, false, true]), [0xa0]);
+    }
+
+    #[test]
+    fn bits_fill_so_many_octets_as_their_string_has() {
+        for bits in 0..100 {
+            let octets = octets_of(&vec![true; bits]).len();
+            assert_eq!(rounded_up_to_octets(bits as u64), octets as u128, "{bits}");
+        }
+    }
+
+    #[test]
+    fn no_number_of_bits_overflows() {
+        for less in 0..7 {
+            assert_eq!(rounded_up_to_octets(u64::MAX - less), 1 << 61, "{less}");
+        }
+        assert_eq!(rounded_up_to_octets(u64::MAX - 7), (1 << 61) - 1);
     }
 
     #[test]

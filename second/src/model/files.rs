@@ -146,8 +146,8 @@ impl<'a> Filing<'a> {
     }
 }
 
-/// Event 7 "if the data is under 10 octets, the 64-bit bit length L ... is 0 or not a multiple
-/// of 8, or the shape is wrong": otherwise the bit length.
+/// Event 7 "if the data is under 10 octets, the 64-bit bit length L ... is 0 ..., or the shape is
+/// wrong", where "Any L from 1 is good" (02, 2/14): otherwise the bit length.
 fn good_start(flags: Flags, data: &[u8]) -> Option<u64> {
     let length = transport::bit_length(data)?;
     let has_shape = match flags {

@@ -1,6 +1,6 @@
 //! The header reader: 01, Header records, and the answers 20 to 27.
 
-use crate::model::bits::Fields;
+use crate::model::bits::{self, Fields};
 
 /// "fewer than 16 octets", and the length of the primary record.
 pub const PRIMARY_SIZE: usize = 16;
@@ -142,7 +142,7 @@ fn judge_fixed(record: &Record, before: &[Record]) -> Result<(), Refusal> {
 
 /// "26 lent octets not header length plus data field bits rounded up to octets"
 fn judge_data(file: &[u8], primary: &Primary) -> Result<(), Refusal> {
-    let octets = u128::from(primary.bits).div_ceil(8);
+    let octets = bits::rounded_up_to_octets(primary.bits);
     if file.len() as u128 != u128::from(primary.header_length) + octets {
         return Err(Refusal::DataLength);
     }

@@ -1,4 +1,5 @@
-//! "A state is sound when": 01, The station, one function to a clause.
+//! "A state is sound when": 01, The station, one function to a clause. Of a held slot's length
+//! request 2/14 of 02 took away "a multiple of 8", and the N that it gives has L/8 rounded up.
 //!
 //! "what isn't lent isn't judged": the clauses over the state alone are judged by every call
 //! that is handed a state, those over desk octets by frames only (O9).
@@ -46,7 +47,7 @@ fn held_slot_is_sound(state: &State, slot: usize, file: &Slot) -> bool {
         && has_accepted_1_to_n_packets(file)
         && its_channel_is_watched(state, file)
         && its_application_is_at_most_2015(file)
-        && its_length_is_nonzero_and_a_multiple_of_8(file)
+        && its_length_is_nonzero(file)
         && its_last_count_is_below_16384(file)
 }
 
@@ -75,7 +76,7 @@ fn each_block_is_free_or_of_a_held_slot(state: &State) -> bool {
 
 /// "a held slot with need N has places 0 to N-1 once each". The place of a block is its rank
 /// among the slot's blocks (O7), so the places are 0 to N-1 exactly if there are N of them;
-/// this is also "its length ... gives N".
+/// this is also "its length ... gives N", with L/8 rounded up (02, 2/14).
 fn has_places_0_to_n_less_1_once_each(state: &State, slot: usize, file: &Slot) -> bool {
     state.blocks_of(slot).len() as u128 == transport::need(file.length)
 }
@@ -95,8 +96,8 @@ fn its_application_is_at_most_2015(file: &Slot) -> bool {
     file.application.0 <= Application::HIGHEST_FILE
 }
 
-/// "its length is nonzero, a multiple of 8"
-fn its_length_is_nonzero_and_a_multiple_of_8(file: &Slot) -> bool {
+/// "its length is nonzero": "Any L from 1 is good" (02, 2/14).
+fn its_length_is_nonzero(file: &Slot) -> bool {
     transport::is_good_length(file.length)
 }
 

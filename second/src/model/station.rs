@@ -269,7 +269,8 @@ fn held_slot(state: &State, slot: usize) -> Result<usize, Refusal> {
 }
 
 /// "A read copies file octets from a given offset (the ten transport octets don't count) to
-/// fill a lent buffer; length 0 at the very end is allowed."
+/// fill a lent buffer; length 0 at the very end is allowed." The file's end has L/8 rounded up
+/// (02, 2/14): the bits that fill up its last octet are read as they came (O56).
 pub fn read(
     state: &State,
     store: &[u8],

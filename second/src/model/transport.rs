@@ -1,7 +1,9 @@
-//! The transport file: bit length, need, rest and the shapes of its packets, 01, Packets.
+//! The transport file: bit length, need, rest and the shapes of its packets, 01, Packets, with
+//! request 2/14 of 02: "Any L from 1 is good, and L/8 is rounded up wherever 01 has it".
 //!
 //! All arithmetic is in 128 bits, where no 64-bit bit length can overflow.
 
+use crate::model::bits;
 use crate::model::packet::{self, Flags};
 
 /// "the 64-bit bit length L (octets 2 to 9, after the 16-bit file counter)"
@@ -15,22 +17,22 @@ pub fn bit_length(data: &[u8]) -> Option<u64> {
     Some(u64::from_be_bytes(field))
 }
 
-/// Event 7 if L "is 0 or not a multiple of 8".
+/// Event 7 if L "is 0"; "Any L from 1 is good" (02, 2/14).
 pub fn is_good_length(length: u64) -> bool {
-    length != 0 && length.is_multiple_of(8)
+    length != 0
 }
 
-/// L/8: the octets of the file.
+/// L/8, which "is rounded up wherever 01 has it" (02, 2/14): the octets of the file.
 pub fn file_octets(length: u64) -> u128 {
-    u128::from(length / 8)
+    bits::rounded_up_to_octets(length)
 }
 
-/// 10 + L/8: the octets of the transport file.
+/// 10 + L/8, L/8 rounded up: the octets of the transport file.
 pub fn transport_octets(length: u64) -> u128 {
     HEADER_SIZE as u128 + file_octets(length)
 }
 
-/// "The need is N = the quotient of 10 + L/8 by 8190, rounded up."
+/// "The need is N = the quotient of 10 + L/8 by 8190, rounded up", L/8 rounded up before (O54).
 pub fn need(length: u64) -> u128 {
     transport_octets(length).div_ceil(BLOCK_SIZE as u128)
 }
@@ -45,7 +47,7 @@ pub fn first_has_shape(octets: usize, length: u64) -> bool {
     octets == BLOCK_SIZE && need(length) >= 2
 }
 
-/// "Whole: 10 + L/8 octets and N = 1."
+/// "Whole: 10 + L/8 octets and N = 1", L/8 rounded up.
 pub fn whole_has_shape(octets: usize, length: u64) -> bool {
     octets as u128 == transport_octets(length) && need(length) == 1
 }

@@ -3,7 +3,9 @@
 use std::collections::BTreeSet;
 
 use second::makers::{cases, demo, loads, random, stream};
-use second::model::{program, records, trial};
+use second::model::{program, records, transport, trial};
+
+use crate::memory::Station;
 
 fn tried(script: &[u8]) -> String {
     let mut out = Vec::new();
@@ -40,7 +42,7 @@ fn cases_run_to_their_end_but_for_those_that_end_the_run() {
         }
     }
     assert!(last_line(&tried(&all)).ends_with(" 0"));
-    assert!(all.len() < 400_000);
+    assert!(all.len() < 420_000);
 }
 
 fn made(run: fn(u64, u64, &mut dyn std::io::Write), seed: u64, size: u64) -> Vec<u8> {
@@ -86,6 +88,56 @@ fn random_scripts_meet_every_answer_and_event() {
             );
         }
     }
+}
+
+/// Of some files a quarter to a third have a length that is no multiple of 8, or nearly so many,
+/// of those in one packet and of those in several.
+fn lengths_are_mixed(lengths: &[u64]) {
+    for whole in [true, false] {
+        let of_kind = lengths
+            .iter()
+            .filter(|&&length| (transport::need(length) == 1) == whole);
+        let all = of_kind.clone().count();
+        let filled_up = of_kind.filter(|&length| length % 8 != 0).count();
+        let share = filled_up as f64 / all as f64;
+        assert!(all >= 50, "{all}");
+        assert!((0.2..0.38).contains(&share), "{filled_up} of {all}");
+    }
+}
+
+#[test]
+fn random_scripts_have_lengths_that_are_no_multiple_of_8() {
+    let mut files = BTreeSet::new();
+    for seed in 1..=16 {
+        let out = tried(&made(random::run, seed, 600));
+        let shown = out.lines().filter_map(|line| line.strip_prefix("T "));
+        files.extend(shown.map(|line| {
+            let words: Vec<u64> = line
+                .split(' ')
+                .map_while(|word| word.parse().ok())
+                .collect();
+            (seed, words[2], words[3])
+        }));
+    }
+    let lengths: Vec<u64> = files.iter().map(|&(_, _, length)| length).collect();
+    lengths_are_mixed(&lengths);
+}
+
+#[test]
+fn random_streams_have_lengths_that_are_no_multiple_of_8() {
+    let mut lengths = Vec::new();
+    for seed in 1..=40 {
+        let mut station = Station::new(&[0, 1, 2, 3], 64);
+        for unit in made(stream::run, seed, 150).chunks_exact(1024) {
+            for event in station.frame(unit).unwrap_or_default() {
+                let slot = &station.state.slots[usize::from(event[2])];
+                if event[0] == 10 && slot.is_held() {
+                    lengths.push(slot.length);
+                }
+            }
+        }
+    }
+    lengths_are_mixed(&lengths);
 }
 
 #[test]

@@ -119,20 +119,59 @@ fn needs() {
     let greatest = [65_440, 130_960, 196_480, 262_000, 327_520, 393_040, 458_560];
     for (place, &length) in greatest.iter().enumerate() {
         let need = place as u128 + 1;
-        assert_eq!(
-            (transport::need(length), transport::rest(length)),
-            (need, 8190)
-        );
-        assert_eq!(
-            (transport::need(length + 8), transport::rest(length + 8)),
-            (need + 1, 1)
-        );
+        assert_eq!(need_and_rest(length), (need, 8190));
+        assert_eq!(need_and_rest(length + 8), (need + 1, 1));
+        assert_eq!(need_and_rest(length - 7), (need, 8190));
+        assert_eq!(need_and_rest(length - 8), (need, 8189));
+        assert_eq!(need_and_rest(length + 1), (need + 1, 1));
+        assert_eq!(need_and_rest(length + 9), (need + 1, 2));
     }
     assert_eq!(transport::need(8), 1);
     assert_eq!(transport::need(268_369_840), 4096);
     assert_eq!(transport::need(268_369_848), 4097);
-    let longest = u64::MAX - 7;
-    assert_eq!(transport::need(longest), 281_543_712_968_706);
-    assert_eq!(transport::rest(longest), 11);
-    assert!(!transport::is_good_length(12) && !transport::is_good_length(0));
+    assert_eq!(need_and_rest(u64::MAX - 7), (281_543_712_968_706, 11));
+}
+
+fn need_and_rest(length: u64) -> (u128, u128) {
+    (transport::need(length), transport::rest(length))
+}
+
+/// 02, 2/14: "Any L from 1 is good".
+#[test]
+fn good_lengths() {
+    assert!(!transport::is_good_length(0));
+    for length in [1, 7, 8, 9, 12, 65_441, u64::MAX - 7, u64::MAX] {
+        assert!(transport::is_good_length(length), "{length}");
+    }
+}
+
+/// 02, 2/14: "L/8 is rounded up wherever 01 has it", "N = 1 with 12 octets of data".
+#[test]
+fn lengths_that_are_no_multiple_of_8() {
+    // 12 bits are one octet and a half, so two of them, and 10 + 2 = 12.
+    assert_eq!(transport::file_octets(12), 2);
+    assert_eq!(need_and_rest(12), (1, 12));
+    assert!(transport::whole_has_shape(12, 12));
+    assert!(!transport::whole_has_shape(11, 12) && !transport::whole_has_shape(13, 12));
+    for (length, octets) in [(1, 1), (7, 1), (8, 1), (9, 2), (16, 2), (17, 3)] {
+        assert_eq!(transport::file_octets(length), octets, "{length}");
+        assert_eq!(need_and_rest(length), (1, 10 + octets), "{length}");
+    }
+    // 65,440 / 8 = 8,180, so 8,181 octets, and 10 + 8,181 = 8,190 + 1.
+    assert_eq!(need_and_rest(65_441), (2, 1));
+    assert!(transport::first_has_shape(8190, 65_441));
+    assert!(!transport::whole_has_shape(8190, 65_441));
+    for length in 65_433..=65_440 {
+        assert!(transport::whole_has_shape(8190, length), "{length}");
+    }
+    // 130,960 / 8 = 16,370, so 16,371 octets, and 10 + 16,371 = 2 x 8,190 + 1.
+    assert_eq!(need_and_rest(130_961), (3, 1));
+    // 268,369,840 / 8 = 33,546,230, so 33,546,231 octets, and 10 more are 4,096 x 8,190 + 1.
+    assert_eq!(need_and_rest(268_369_841), (4097, 1));
+    // 2^61 octets, and 10 + 2^61 = 281,543,712,968,705 x 8,190 + 12.
+    for length in [u64::MAX - 6, u64::MAX] {
+        assert_eq!(transport::file_octets(length), 1 << 61);
+        assert_eq!(need_and_rest(length), (281_543_712_968_706, 12));
+        assert!(transport::first_has_shape(8190, length));
+    }
 }

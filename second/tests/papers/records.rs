@@ -96,6 +96,21 @@ fn refusals() {
     );
 }
 
+/// "data field bits rounded up to octets"
+#[test]
+fn data_fields_that_are_no_whole_octets() {
+    for (bits, octets) in [(0, 0), (1, 1), (7, 1), (8, 1), (9, 2), (12, 2)] {
+        let file = [primary(0, 16, bits), vec![0xff; octets]].concat();
+        assert_eq!(refusal(&file), None, "{bits}");
+        let longer = [&file[..], &[0]].concat();
+        assert_eq!(refusal(&longer), Some(Refusal::DataLength), "{bits}");
+        if octets > 0 {
+            let shorter = &file[..file.len() - 1];
+            assert_eq!(refusal(shorter), Some(Refusal::DataLength), "{bits}");
+        }
+    }
+}
+
 #[test]
 fn records_are_judged_one_by_one() {
     let twice_then_short = [segment(1, 1, 1), segment(1, 1, 1), vec![4, 0, 2]];

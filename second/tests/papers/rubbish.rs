@@ -58,11 +58,13 @@ fn some_packets(chance: &mut Chance) -> Vec<Vec<u8>> {
         3..=5 => {
             let need = 1 + chance.below(4) as usize;
             let file = make::File::of_need(Channel(0), application, need);
+            let file = file.with_filler(chance.below(8));
             file.packets(chance.below(3) as u16)
         }
         6 => {
             let octets = chance.some_octets(40);
-            make::File::of(Channel(0), application, 1, &octets).packets(0)
+            let file = make::File::of(Channel(0), application, 1, &octets);
+            file.with_filler(chance.below(8)).packets(0)
         }
         _ => vec![fields.packet(&chance.some_octets(12))],
     }

@@ -41,7 +41,10 @@ const QUESTIONS: &[(&str, &str)] = &[
     ("L 000000000000ffa0", "L 1 8190"),
     ("L 000000000000ffa8", "L 2 1"),
     ("L fffffffffffffff8", "L 281543712968706 11"),
-    ("L 000000000000000c", "L bad"),
+    ("L 000000000000000c", "L 1 12"),
+    ("L 0000000000000001", "L 1 11"),
+    ("L 000000000000ffa1", "L 2 1"),
+    ("L ffffffffffffffff", "L 281543712968706 12"),
     ("L 0000000000000000", "L bad"),
     ("W ffffff000000", "W 1"),
     ("W 000000000000", "W 0"),
@@ -62,6 +65,8 @@ fn questions() {
 fn shapes() {
     let two = "000000000000ffa8";
     let one = "0000000000000008";
+    let twelve = "000000000000000c";
+    let odd = "000000000000ffa1";
     for (question, answer) in [
         (format!("S 011ffe{two}000000000000"), "S 1"),
         (format!("S 011ffd{two}000000000000"), "S 0"),
@@ -77,7 +82,14 @@ fn shapes() {
         (format!("S 041ffe{two}000000000000"), "?"),
         (format!("S 011ffe{two}000040000000"), "?"),
         (format!("S 011ffe{two}000000004000"), "?"),
+        (format!("S 03000b{twelve}000000000000"), "S 0"),
+        (format!("S 03000c{twelve}000000000000"), "S 1"),
+        (format!("S 03000d{twelve}000000000000"), "S 0"),
+        (format!("S 020001{odd}00013fff0000"), "S 1"),
+        (format!("S 011ffe{odd}000000000000"), "S 1"),
+        (format!("S 031ffe{odd}000000000000"), "S 0"),
         ("S 011ffe0000000000000000000000000000".to_string(), "S bad"),
+        ("S 03000a0000000000000000000000000000".to_string(), "S bad"),
         ("S 041ffe0000000000000000000000000000".to_string(), "?"),
     ] {
         assert_eq!(

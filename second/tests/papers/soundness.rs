@@ -93,12 +93,33 @@ fn fields_of_a_held_slot() {
         |state| state.slots[1].application = Application(2015)
     ));
     assert!(broken(|state| state.slots[0].length = 0));
-    assert!(broken(|state| state.slots[0].length = 12));
     assert!(broken(|state| state.slots[0].length = 65_448));
     assert!(broken(|state| state.slots[0].length = u64::MAX));
     assert!(!broken(|state| state.slots[0].length = 8));
     assert!(broken(|state| state.slots[0].last_count = 16_384));
     assert!(!broken(|state| state.slots[0].last_count = 16_383));
+}
+
+/// Of "nonzero, a multiple of 8 and gives N" 02, 2/14, left "nonzero" and "gives N".
+#[test]
+fn lengths_that_are_no_multiple_of_8() {
+    for length in [1, 12, 65_433, 65_439] {
+        assert!(!broken(|state| state.slots[0].length = length), "{length}");
+        assert!(broken(|state| state.slots[1].length = length), "{length}");
+    }
+    for length in [65_441, 65_447, 130_953, 130_959] {
+        assert!(broken(|state| state.slots[0].length = length), "{length}");
+        assert!(!broken(|state| state.slots[1].length = length), "{length}");
+    }
+    for length in [130_961, u64::MAX - 6, u64::MAX] {
+        assert!(broken(|state| state.slots[0].length = length), "{length}");
+        assert!(broken(|state| state.slots[1].length = length), "{length}");
+    }
+    let mut station = busy();
+    station.state.slots[1].length = 65_441;
+    station.state.slots[1].accepted = 2;
+    assert_eq!(answers(&mut station), (0, 13, 8));
+    assert_eq!(station::release(&mut station.state, 1), Ok(()));
 }
 
 #[test]

@@ -74,14 +74,67 @@ fn a_read_gives_the_octets_sent() {
     assert_eq!(read(u64::MAX, &mut some), Err(Refusal::PastEnd));
 }
 
+/// The events of a whole packet with so many octets of a file behind the ten of transport.
+fn whole_of_bits(station: &mut Station, length: u64, octets: &[u8]) -> Vec<[u16; 3]> {
+    let data = [&[0, 0], &length.to_be_bytes()[..], octets].concat();
+    station.packets(0, &[packet(5, Flags::Whole, 0, &data)])
+}
+
+/// 02, 2/14: "The case L = 12 changes to N = 1 with 12 octets of data."
 #[test]
-fn a_bit_length_of_12_gives_7() {
+fn a_bit_length_of_12_has_12_octets_of_data() {
     let mut station = Station::new(&[0], 7);
-    let data = [&[0, 0], &12u64.to_be_bytes()[..], &[0, 0]].concat();
+    let octets = [0xab, 0xcf, 0x55];
+    for (length, number) in [(12, 0), (12, 1), (12, 3), (0, 0), (0, 1), (0, 2)] {
+        let events = whole_of_bits(&mut station, length, &octets[..number]);
+        assert_eq!(events, [[7, 5, 0]], "{length} {number}");
+    }
     assert_eq!(
-        station.packets(0, &[packet(5, Flags::Whole, 0, &data)]),
-        [[7, 5, 0]]
+        whole_of_bits(&mut station, 12, &octets[..2]),
+        [[10, 5, 0], [12, 5, 0]]
     );
+    let read = |offset, size| {
+        let mut buffer = vec![0; size];
+        station::read(&station.state, &station.store, 0, offset, &mut buffer).map(|()| buffer)
+    };
+    assert_eq!(read(0, 2), Ok(vec![0xab, 0xcf]));
+    assert_eq!(read(1, 1), Ok(vec![0xcf]));
+    assert_eq!(read(2, 0), Ok(vec![]));
+    for (offset, size) in [(0, 3), (1, 2), (2, 1), (3, 0)] {
+        assert_eq!(read(offset, size), Err(Refusal::PastEnd));
+    }
+}
+
+#[test]
+fn a_file_whose_last_octet_is_filled_up_is_read_to_its_end() {
+    for filler in 1..8 {
+        let file = file(0, 10, 3).with_filler(filler);
+        let mut station = Station::new(&[0], 3);
+        let events = station.packets(0, &file.packets(16_382));
+        assert_eq!(events, [[10, 10, 0], [11, 10, 0], [12, 10, 0]]);
+        let mut all = vec![0; file.octets.len()];
+        let read = |offset, buffer: &mut [u8]| {
+            station::read(&station.state, &station.store, 0, offset, buffer)
+        };
+        assert_eq!(read(0, &mut all), Ok(()));
+        assert_eq!(all, file.octets);
+        assert_eq!(read(1, &mut all), Err(Refusal::PastEnd));
+        assert_eq!(read(all.len() as u64, &mut []), Ok(()));
+        assert_eq!(read(all.len() as u64 + 1, &mut []), Err(Refusal::PastEnd));
+    }
+}
+
+/// 02, 2/14: "Demand 3 stands with the new need." Two blocks have 2 x 8,190 - 10 = 16,370 octets,
+/// 130,960 bits.
+#[test]
+fn seven_blocks_one_bit_more_than_two_have_gives_9() {
+    for (length, event) in [(130_960, [10, 11, 1]), (130_961, [9, 11, 0])] {
+        let mut station = with_file_of_5();
+        let mut data = [&[0, 0], &u64::to_be_bytes(length)[..]].concat();
+        data.resize(8190, 0);
+        let first = packet(11, Flags::First, 0, &data);
+        assert_eq!(station.packets(1, &[first]), [event], "{length}");
+    }
 }
 
 /// Frames with a first packet of 8,198 octets that lacks `lacked` octets in the last but

@@ -8,9 +8,5 @@ returns : tie.Need-returns
 unfolding goodLength
 returns c = search tests
 
-returns-2 : tie.Need-returns-2
-unfolding goodLength
-returns-2 c = search tests
-
 pub good-length-spec : {M : Type 1} → statement M
-good-length-spec = tie.close (tie.spec returns returns-2)
+good-length-spec = tie.close (tie.spec returns)

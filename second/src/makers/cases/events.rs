@@ -2,7 +2,7 @@
 
 use super::{
     bits, complete, damaged, first, half, last, middle, octets, packet, sparse_middle,
-    sparse_start, start_data, whole, Row,
+    sparse_start, start_data, whole, whole_of_bits, Row,
 };
 use crate::makers::make;
 use crate::makers::script::{Field, Held, Script};
@@ -26,6 +26,7 @@ pub const CASES: &[Row] = &[
     ("event-08", "8: all 32 slots held, before 9; not where one of them is abandoned", no_slot),
     ("event-09", "9: no block free, for a whole file", no_room),
     ("event-09-wide", "9: L = 2^64 - 8, whose need has 49 bits", no_room_wide),
+    ("event-09-widest", "9: L = 2^64 - 1, the greatest; a whole packet of 10, 11 or 12 octets is 7", no_room_widest),
     ("event-10-12", "10 and 12: whole files in the lowest free slots and blocks", whole_files),
     ("event-11-12", "10, 11, 12: a file of three packets, with packets of others between; reads of its octets", three_packets),
     ("event-13", "13: 2016 to 2046 are skipped, with any flags and octets", reserved),
@@ -122,7 +123,7 @@ fn abandoned(script: &mut Script) {
         packet(5, Flags::First, 9, &octets(1)),
         packet(5, Flags::Whole, 9, &octets(9)),
         packet(5, Flags::First, 9, &start_data(65_448, 100)),
-        packet(5, Flags::Whole, 9, &start_data(12, 12)),
+        packet(5, Flags::Whole, 9, &start_data(0, 10)),
         whole(5, 3),
     ];
     for start in starts {
@@ -249,7 +250,7 @@ fn no_slot(script: &mut Script) {
         ..half(31, 1, 5)
     });
     script.filled(0, 0, &whole(5, 1));
-    script.filled(0, 0, &packet(5, Flags::Whole, 0, &start_data(12, 12)));
+    script.filled(0, 0, &packet(5, Flags::Whole, 0, &start_data(0, 10)));
     script.filled(1, 0, &[whole(6, 1), whole(5, 2), whole(5, 3)].concat());
     script.show();
     script.release(7);
@@ -266,7 +267,7 @@ fn no_room(script: &mut Script) {
     script.filled(
         0,
         0,
-        &[whole(5, 1), packet(5, Flags::Whole, 0, &start_data(12, 12))].concat(),
+        &[whole(5, 1), packet(5, Flags::Whole, 0, &start_data(0, 10))].concat(),
     );
     script.show();
     script.filled(0, 0, &[last(9, 1, 1), whole(9, 2)].concat());
@@ -279,6 +280,14 @@ fn no_room_wide(script: &mut Script) {
     script.station();
     script.end_of(0, &sparse_start(5, Flags::First, 0, u64::MAX - 7));
     script.filled(0, 0, &whole(6, 2));
+    script.show();
+}
+
+fn no_room_widest(script: &mut Script) {
+    script.station();
+    script.end_of(0, &sparse_start(5, Flags::First, 0, u64::MAX));
+    let packets = [0, 1, 2].map(|number| whole_of_bits(6, u64::MAX, &octets(number)));
+    script.filled(0, 0, &packets.concat());
     script.show();
 }
 

@@ -1,7 +1,7 @@
 //! "Both sides of the line": the cases that are not starred, and the starred ones once more
 //! where a frame shows them.
 
-use super::{bits, first, half, last, packet, sparse_start, start_data, whole, Row};
+use super::{bits, first, half, last, packet, sparse_start, start_data, whole, whole_of_bits, Row};
 use crate::makers::make;
 use crate::makers::script::{Field, Held, Script};
 use crate::model::packet::{Application, Flags};
@@ -23,6 +23,11 @@ pub const CASES: &[Row] = &[
         seven_opens,
     ),
     (
+        "line-blocks-rounded-up",
+        "\"Seven blocks, one held file of 5\", of 262,001 bits: L = 130,960 opens; 130,961 gives 9, then 12 opens; after the release 458,561 gives 9, 458,560 opens",
+        rounded_up,
+    ),
+    (
         "line-count-wrap",
         "\"Count 16,383 then 0 follows\"",
         count_wrap,
@@ -33,14 +38,29 @@ pub const CASES: &[Row] = &[
         counter_wrap,
     ),
     (
+        "line-length-1-7-8-9",
+        "L = 1, 7 and 8: 1 octet; L = 9: 2 octets; an octet less and an octet more are wrong",
+        length_1_7_8_9,
+    ),
+    (
         "line-length-12",
-        "\"L = 12: event 7\", and other L that are no multiple of 8, or 0",
+        "02, 2/14: L = 12 is \"N = 1 with 12 octets of data\"; 11 and 13 are wrong, and L = 0; the bits that fill up are read as they came",
         length_12,
+    ),
+    (
+        "line-length-65433",
+        "L = 65,433: a whole packet of 8,190 octets of data, which are too many for 65,432; up to 65,440 the file's end is the same",
+        length_65433,
     ),
     (
         "line-length-65440",
         "L = 65,440: a whole packet of 8,190 octets of data",
         length_65440,
+    ),
+    (
+        "line-length-65441",
+        "L = 65,441: N = 2, the last packet has 1 octet; 2 octets are wrong, and a whole packet",
+        length_65441,
     ),
     (
         "line-length-65448",
@@ -71,14 +91,14 @@ pub const CASES: &[Row] = &[
     ("line-r-885", "r = 885 wants 2047 and one octet more", r_885),
 ];
 
-/// Seven blocks, the first five of which hold a complete file in slot 0.
-fn one_held_file_of_5(script: &mut Script) {
+/// Seven blocks, the first five of which hold a complete file of this length in slot 0.
+fn one_held_file_of_5(script: &mut Script, length: u64) {
     script.station();
     script.held(&Held {
         slot: 0,
         channel: 3,
         application: 100,
-        length: bits(5, 8190),
+        length,
         count: 4,
         accepted: 5,
         blocks: vec![0, 1, 2, 3, 4],
@@ -86,21 +106,38 @@ fn one_held_file_of_5(script: &mut Script) {
 }
 
 fn two_opens(script: &mut Script) {
-    one_held_file_of_5(script);
+    one_held_file_of_5(script, bits(5, 8190));
     script.packets(0, &[first(5, 9, bits(2, 8190))]);
     script.show();
 }
 
 fn three_gives_9(script: &mut Script) {
-    one_held_file_of_5(script);
+    one_held_file_of_5(script, bits(5, 8190));
     script.packets(0, &[first(5, 9, bits(3, 1))]);
     script.show();
 }
 
 fn seven_opens(script: &mut Script) {
-    one_held_file_of_5(script);
+    one_held_file_of_5(script, bits(5, 8190));
     script.release(0);
     script.packets(0, &[first(5, 9, bits(7, 8190))]);
+    script.show();
+}
+
+fn rounded_up(script: &mut Script) {
+    let first = |application, length| sparse_start(application, Flags::First, 9, length);
+    one_held_file_of_5(script, bits(4, 8190) + 1);
+    script.end_of(0, &first(5, bits(2, 8190)));
+    script.show();
+    one_held_file_of_5(script, bits(4, 8190) + 1);
+    script.end_of(0, &first(5, bits(2, 8190) + 1));
+    let whole = whole_of_bits(6, 12, &[0xab, 0xcd]);
+    script.filled(0, 0, &whole.repeat(3));
+    script.show();
+    one_held_file_of_5(script, bits(4, 8190) + 1);
+    script.release(0);
+    script.end_of(0, &first(5, bits(7, 8190) + 1));
+    script.end_of(0, &first(6, bits(7, 8190)));
     script.show();
 }
 
@@ -132,16 +169,60 @@ fn counter_wrap(script: &mut Script) {
     script.show();
 }
 
+/// Reads of a file's octets, of one more, and of none and one at its very end and behind it.
+fn read_to_the_end(script: &mut Script, slot: u16, octets: u32) {
+    let end = u64::from(octets);
+    script.read(slot, octets, 0);
+    script.read(slot, octets + 1, 0);
+    for (octets, offset) in [(1, end - 1), (2, end - 1), (0, end), (1, end), (0, end + 1)] {
+        script.read(slot, octets, offset);
+    }
+}
+
 fn length_12(script: &mut Script) {
     script.station();
-    let lengths = [12, 0, 1, 7, 9, 15, 8, 16];
-    let packets: Vec<Vec<u8>> = lengths
+    let octets = [0xab, 0xcf, 0x55];
+    let mut packets: Vec<Vec<u8>> = [0, 1, 3, 2]
         .iter()
-        .map(|&length| packet(5, Flags::Whole, 0, &start_data(length, 11)))
+        .map(|&number| whole_of_bits(5, 12, &octets[..number]))
         .collect();
+    packets.push(packet(5, Flags::First, 0, &start_data(12, 12)));
+    packets.extend([0, 1, 2].map(|number| whole_of_bits(5, 0, &octets[..number])));
+    packets.push(whole_of_bits(5, 12, &[0xab, 0xc0]));
     script.packets(0, &packets);
-    script.filled(0, 0, &packet(6, Flags::Whole, 0, &start_data(12, 12)));
+    read_to_the_end(script, 0, 2);
+    script.read(1, 2, 0);
     script.show();
+}
+
+fn length_1_7_8_9(script: &mut Script) {
+    script.station();
+    let octets = [0xd7, 0xb5, 0x9e];
+    let lengths = [(1, 1), (7, 1), (8, 1), (9, 2)];
+    let of_length = |&(length, right): &(u16, usize)| {
+        [right - 1, right, right + 1]
+            .map(|number| whole_of_bits(length, u64::from(length), &octets[..number]))
+    };
+    let packets: Vec<Vec<u8>> = lengths.iter().flat_map(of_length).collect();
+    script.packets(0, &packets);
+    script.show();
+    for (slot, (_, right)) in lengths.into_iter().enumerate() {
+        read_to_the_end(script, slot as u16, right as u32);
+    }
+}
+
+fn length_65433(script: &mut Script) {
+    script.station();
+    script.end_of(2, &sparse_start(5, Flags::Whole, 0, 65_433));
+    script.read(0, 3, 8177);
+    script.end_of(2, &sparse_start(5, Flags::Whole, 0, 65_432));
+    script.show();
+    for length in 65_432..=65_441 {
+        script.poke(Field::SlotLength, 0, length);
+        for offset in [8179, 8180, 8181] {
+            script.read(0, 0, offset);
+        }
+    }
 }
 
 fn length_65440(script: &mut Script) {
@@ -150,6 +231,24 @@ fn length_65440(script: &mut Script) {
     script.read(0, 3, 8177);
     script.read(0, 0, 8180);
     script.read(0, 1, 8180);
+    script.show();
+}
+
+fn length_65441(script: &mut Script) {
+    script.station();
+    script.end_of(2, &sparse_start(5, Flags::First, 0, 65_441));
+    script.filled(2, 0, &packet(5, Flags::Last, 1, &[0xff]));
+    for (octets, offset) in [(3, 8178), (1, 8180), (2, 8180), (0, 8181), (1, 8181)] {
+        script.read(0, octets, offset);
+    }
+    script.end_of(2, &sparse_start(5, Flags::Whole, 0, 65_441));
+    script.show();
+    script.station();
+    script.held(&Held {
+        length: 65_441,
+        ..half(0, 2, 5)
+    });
+    script.filled(2, 0, &last(5, 1, 2));
     script.show();
 }
 

@@ -82,7 +82,7 @@ Scripts for `trial` (docs/TRIAL.md), each small and named for what it shows, and
 `second case NAME` prints, `NAME.expected` what `second trial` makes of it; `tests/make-stored` writes both anew, and this page too. Each case
 lends memory and sets up at its start, so that they can stand behind one another in any order; those that end the run come last. Octets
 stay in the store from case to case, so that `H` and some reads print other numbers there than alone.
-What stands in quotation marks is the rules paper.
+What stands in quotation marks is the rules paper, or request 2/14 of the change requests (02) where that is named.
 
 | case | shows |
 |---|---|
@@ -97,7 +97,8 @@ pub fn write_case(name: &str, out: &mut dyn Write) -> bool {
     true
 }
 
-/// The bit length of a file of need `need` whose last packet has `rest` octets of data.
+/// The bit length of a file of need `need` whose last packet has `rest` octets of data, none of
+/// its bits to fill up the last one.
 fn bits(need: u64, rest: u64) -> u64 {
     ((need - 1) * BLOCK_SIZE as u64 + rest - 10) * 8
 }
@@ -155,6 +156,12 @@ fn last(application: u16, count: u16, rest: usize) -> Vec<u8> {
 /// A whole packet of a file of `size` octets, count 0.
 fn whole(application: u16, size: usize) -> Vec<u8> {
     let data = start_data(size as u64 * 8, size + 10);
+    packet(application, Flags::Whole, 0, &data)
+}
+
+/// A whole packet of any bit length, count 0, with these octets behind the ten of transport.
+fn whole_of_bits(application: u16, length: u64, octets: &[u8]) -> Vec<u8> {
+    let data = [&start_data(length, 10), octets].concat();
     packet(application, Flags::Whole, 0, &data)
 }
 

@@ -10,8 +10,9 @@ pub const CASES: &[Row] = &[
     ("answer-02-blocks", "2: \"each block is free or stands at one place of one held slot\"; places 0 to N-1 once each", blocks),
     ("answer-02-desk-octets", "2, of a frame alone: zeros after the held octets; six or more read as a good header of a longer packet", desk_octets),
     ("answer-02-desk-positions", "2: at most 8,197 octets held, counter below 2^24, counter 0 and nothing held where no frame was seen", desk_positions),
-    ("answer-02-fields", "2: channel watched, application at most 2015, length nonzero, a multiple of 8, gives N; count below 16,384", fields),
+    ("answer-02-fields", "2: channel watched, application at most 2015, length nonzero and gives N; count below 16,384", fields),
     ("answer-02-free-slots", "2: \"a free slot is all zero\"", free_slots),
+    ("answer-02-lengths", "2: lengths that are no multiple of 8: up to 65,440 N = 1, up to 130,960 N = 2, 2^64 - 1 far beyond; of 65,441 bits a file is complete after two packets", lengths),
     ("answer-02-pairs", "2: \"no two incomplete slots share channel and application\"; complete ones may", pairs),
     ("answer-02-past-the-counts", "entries past the numbers of channels and blocks are not judged", past_the_counts),
     ("answer-02-set-up", "2: channels 0 to 62, distinct, 1 to 8 of them", set_up),
@@ -139,6 +140,28 @@ fn fields(script: &mut Script) {
         0,
     );
     changed(script, Field::SlotCount, 2, &[16_384, 65_535, 16_383], 0);
+    script.show();
+}
+
+fn lengths(script: &mut Script) {
+    busy(script);
+    let (one, two) = (bits(1, 8190), bits(2, 8190));
+    let near_one: Vec<u64> = (one - 7..=one + 1).collect();
+    let others = [1, 12, one + 7, two - 7, u64::MAX - 6, u64::MAX];
+    changed(script, Field::SlotLength, 0, &near_one, 80);
+    changed(script, Field::SlotLength, 0, &others, 80);
+    let lengths = [one - 7, one, one + 1, two - 1, two + 1];
+    changed(script, Field::SlotLength, 1, &lengths, bits(2, 1));
+    changed(script, Field::SlotLength, 1, &others, bits(2, 1));
+    script.poke(Field::SlotLength, 1, one + 1);
+    script.read(1, 0, 0);
+    changed(script, Field::SlotAccepted, 1, &[0, 3], 2);
+    script.drop_file(1);
+    script.read(1, 0, 8181);
+    script.read(1, 0, 8182);
+    script.show();
+    script.poke(Field::SlotAccepted, 1, 1);
+    script.drop_file(1);
     script.show();
 }
 

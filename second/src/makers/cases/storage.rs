@@ -1,12 +1,15 @@
 //! Files in their blocks: which blocks, what is written, what is read.
 
-use super::{bits, complete, half, last, packet, sparse_start, start_data, whole, Row};
+use super::{
+    bits, complete, half, last, octets, packet, sparse, sparse_start, start_data, whole, Row,
+};
 use crate::makers::script::{Held, Script};
 use crate::model::packet::Flags;
 use crate::model::transport::BLOCK_SIZE;
 
 pub const CASES: &[Row] = &[
     ("read-borders", "reads at every block border of a file in blocks 1, 4 and 6: before, over and behind it; the last octets", borders),
+    ("read-filled-up", "a file of three packets, of whose last octet 5 bits fill up: reads over its borders and to its very end; a last packet with an octet less or more", filled_up),
     ("read-long", "a read of 16,384 octets over three blocks up to the file's end, and one past it", long),
     ("read-unchanged", "reads and refused calls change nothing", unchanged),
     ("read-whole", "reads in a file of one block; the ten transport octets don't count", in_one_block),
@@ -62,6 +65,41 @@ fn borders(script: &mut Script) {
     }
     script.read(9, 8196, first - 3);
     script.show();
+}
+
+fn filled_up(script: &mut Script) {
+    let length = bits(3, 100) - 5;
+    script.station();
+    script.held(&complete(0, 3, 1, 1));
+    script.end_of(2, &sparse_start(5, Flags::First, 16_382, length));
+    let middle = sparse(octets(BLOCK_SIZE), 4);
+    script.end_of(2, &packet(5, Flags::Middle, 16_383, &middle));
+    script.filled(2, 0, &last(5, 0, 100));
+    script.show();
+    let end = 16_470;
+    for (octets, offset) in [
+        (8, 8176),
+        (6, 16_367),
+        (100, end - 100),
+        (101, end - 100),
+        (1, end - 1),
+        (0, end),
+        (1, end),
+        (0, end + 1),
+    ] {
+        script.read(1, octets, offset);
+    }
+    for rest in [99, 101] {
+        script.station();
+        script.held(&Held {
+            length,
+            accepted: 2,
+            blocks: vec![0, 2, 3],
+            ..half(1, 2, 5)
+        });
+        script.filled(2, 0, &last(5, 1, rest));
+        script.show();
+    }
 }
 
 fn long(script: &mut Script) {

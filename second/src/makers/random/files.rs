@@ -27,7 +27,8 @@ impl Maker {
         let rest = self.chance.pick(&[1, 2, 9, 100]);
         let octets = self.chance.octets((need - 1) * BLOCK_SIZE - 10 + rest);
         let application = sender::application(&mut self.chance);
-        let file = make::File::of(Channel(self.senders[turn].channel), application, 7, &octets);
+        let file = make::File::of(Channel(self.senders[turn].channel), application, 7, &octets)
+            .with_filler(sender::filler(&mut self.chance));
         let accepted = if self.chance.one_in(3) { 1 } else { need - 1 };
         let first_count = sender::count(&mut self.chance);
         let packets = file.packets(first_count);
@@ -105,6 +106,7 @@ impl Maker {
             .chance
             .weighted(&[(9, Flags::First), (1, Flags::Whole)]);
         let length = (need * BLOCK_SIZE as u64 - 10 - self.chance.below(90)) * 8;
+        let length = length - sender::filler(&mut self.chance);
         let mut data = self.zeros();
         data[2..10].copy_from_slice(&length.to_be_bytes());
         let count = sender::count(&mut self.chance);
@@ -163,11 +165,12 @@ impl Maker {
         let channel = self.state().channels[0].0;
         let left = self.chance.below(2) as usize;
         for (&slot, &block) in empty.iter().zip(&free).skip(left) {
+            let length = 80 - sender::filler(&mut self.chance);
             self.script.held(&Held {
                 slot: slot as u16,
                 channel,
                 application: slot as u16,
-                length: 80,
+                length,
                 count: 0,
                 accepted: 1,
                 blocks: vec![block as u16],
