@@ -3,10 +3,10 @@ use mathlib.Core.Path.{_≡_, refl, sym, ap, ap₂, subst, _∙_}
 use mathlib.Core.Bool.{true}
 use mathlib.Core.Logic.{inl, inr}
 use mathlib.Core.List.{List, [], _∷_, _++_, flatten, append-nil, append-assoc}
-use Prim.Native.Nat.{ℕ, zero, suc, _+_, _/_, _%_, _≤_, _<_}
+use Prim.Native.Nat.{ℕ, zero, suc, _+_, _-_, _/_, _%_, _≤_, _<_}
 use native.Mathlib.Omega.{arith}
-use borrow.Author.Tests.{eq-eqb, le-leb, ltb-true}
-use lib.Dec.{ltb}
+use borrow.Author.Tests.{eq-eqb, le-leb, ltb-true, leb-true}
+use lib.Dec.{ltb, leb}
 use lib.ListN.{length, drop, getD, set, replicate, length-append, length-replicate}
 use Rattle.transport.specs.declared.Transport.{Transport}
 use Rattle.transport.specs.Length.{goodLength, octetsOfBits, transportSize, need, rest}
@@ -33,9 +33,9 @@ use Rattle.zone.proofs.Readings.{reading-first}
 use Rattle.station.specs.SetUp.{channelOf, freshStation, setUp}
 use Rattle.station.specs.Files.{answered, released}
 use Rattle.station.proofs.Fresh.{fresh-desk}
-use Rattle.station.proofs.Calls.{setUp-zero, release-outcome, release-zero}
+use Rattle.station.proofs.Calls.{setUp-zero, release-outcome, release-zero, read-zero}
 use Rattle.history.specs.Run.{World, Call, answer, after, run, Start, fresh}
-use Rattle.history.specs.Run.Call.{frame, release}
+use Rattle.history.specs.Run.Call.{frame, read, release}
 use Rattle.history.specs.Things.{said}
 use Rattle.history.specs.Things.Thing.{packet, left}
 use Rattle.history.specs.Store.{Moment}
@@ -350,6 +350,18 @@ module _ (list : List ℕ) (listed : 900 ≤ length list) where
     unfolding need transportSize octetsOfBits flatten
     twelve-out = out (written .1) refl 864 (omega arith) refl
 
+    twelve-ends : (offset : ℕ) (buffer : List ℕ) → answer (run (fresh x) (partOfAnOctet list)) (read 0 offset buffer) ≡ 0 → offset + length buffer ≤ 2
+    unfolding octetsOfBits answer
+    twelve-ends offset buffer done =
+        let w = run (fresh x) (partOfAnOctet list) in
+        let bits : slotAt (w .station) 0 .bits ≡ 12 = ap (λ (ys : List Slot). getD ys 0 noFile .bits) (twelve-brings .listens .slots) in
+        let size : octetsOfBits (slotAt (w .station) 0 .bits) ≡ 2 = ap octetsOfBits bits in
+        let (_, _, _, _, inside) = read-zero (w .station) 0 (w .store) offset buffer .0 done in
+        let n = octetsOfBits (slotAt (w .station) 0 .bits) in
+        let from = leb-true offset n (and-left (leb offset n) (leb (length buffer) (n - offset)) inside) in
+        let more = leb-true (length buffer) (n - offset) (and-right (leb offset n) (leb (length buffer) (n - offset)) inside) in
+        omega (arith, from, more, size)
+
     -- a file of one octet, whose header is refused, and one that is all header
     header-short : headerRead x (published list) ≡ refusedHeader 20
     unfolding need transportSize octetsOfBits fileFrom freeFrom ofPair incomplete held needs flatten
@@ -381,6 +393,7 @@ module _ (list : List ℕ) (listed : 900 ≤ length list) where
           none-touched = touches-none .tells;
           twelve-bits = twelve-brings .tells;
           twelve-read = twelve-out;
+          twelve-end = twelve-ends;
           header-refused = header-short;
           header-read = ap (λ (r : HeaderAnswer). r .read) (header-good ∙ alone-read);
           two-channels = strays .tells;

@@ -3,7 +3,7 @@
 use mathlib.Core.Path.{_≡_}
 use mathlib.Core.Bool.{true}
 use mathlib.Core.List.{List, [], _∷_, _++_}
-use Prim.Native.Nat.{ℕ, _≤_}
+use Prim.Native.Nat.{ℕ, _+_, _≤_}
 use lib.ListN.{length}
 use Rattle.octets.specs.Number.{Octets}
 use Rattle.records.specs.declared.HeaderAnswer.{HeaderAnswer}
@@ -17,8 +17,8 @@ use Rattle.state.specs.Slots.{slotAt, complete}
 use Rattle.transport.specs.declared.Transport.{Transport}
 use Rattle.events.specs.Event.{of, at}
 use Rattle.judge.specs.Packets.{Starts}
-use Rattle.history.specs.Run.{Call, run, Start, fresh}
-use Rattle.history.specs.Run.Call.{frame, release}
+use Rattle.history.specs.Run.{Call, answer, run, Start, fresh}
+use Rattle.history.specs.Run.Call.{frame, read, release}
 use Rattle.history.specs.Calls.{resultOf}
 use Rattle.history.specs.Store.{Moment}
 use Rattle.history.specs.Headers.{wholeRead}
@@ -123,6 +123,9 @@ pub record Runs (x : Start) (list : List ℕ) : Type 0 where
   pub twelve-bits : allSaid (fresh x) (partOfAnOctet list) ≡ at 10 5 0 ∷ at 12 5 0 ∷ []
   -- its octets, with the bits that fill up the last one as they came
   pub twelve-read : readOut x (partOfAnOctet list) ≡ 0xab ∷ 0xcf ∷ []
+  -- "read passes the file's end": no read of more, or from behind it, is answered by 0
+  pub twelve-end :
+      (offset : ℕ) (buffer : List ℕ) → answer (run (fresh x) (partOfAnOctet list)) (read 0 offset buffer) ≡ 0 → offset + length buffer ≤ 2
   -- "20: header: fewer than 16 octets": the published file has one
   pub header-refused : headerRead x (published list) ≡ refusedHeader 20
   pub header-read :
