@@ -8,11 +8,10 @@ use lib.Dec.{eqb}
 use lib.ListN.{length}
 use Rattle.octets.proofs.Lists.{if-cases}
 use Rattle.lines.specs.Lines.{answerLine}
-use Rattle.station.specs.Files.{released, dropped}
 use Rattle.script.specs.declared.Command.{Command}
 use Rattle.script.specs.Memory.{Memory, lent, octetPoked, statePoked, pokedBy}
-use Rattle.drive.specs.Calls.{setUpBy, frameBy, readBy, wasSetUp, tookFrame, wasReleased, wasDropped, carriedOut}
-use Rattle.drive.specs.Printed.{framePrinted, readPrinted, shownBy, printed}
+use Rattle.drive.specs.Calls.{setUpBy, frameBy, readBy, letGoBy, wasSetUp, tookFrame, wasLetGo, carriedOut}
+use Rattle.drive.specs.Printed.{framePrinted, readPrinted, letGoPrinted, shownBy, printed}
 
 -- no more is lent than there is
 module _ (x : Command) (payload : List ℕ) (w : Memory) where
@@ -20,15 +19,14 @@ module _ (x : Command) (payload : List ℕ) (w : Memory) where
   Within o = (o .desksLent ≤ length (w .desks)) × (o .storeLent ≤ length (w .store))
 
   pub lent-within : Within w → Within (carriedOut x payload w)
-  unfolding carriedOut pokedBy lent wasSetUp tookFrame wasReleased wasDropped octetPoked statePoked
+  unfolding carriedOut pokedBy lent wasSetUp tookFrame wasLetGo octetPoked statePoked
   lent-within f =
       if-cases Within (eqb (x .letter) 0x53) (λ _. f)
       (λ _. if-cases Within (eqb (x .letter) 0x46) (λ _. f)
       (λ _. if-cases Within (eqb (x .letter) 0x4C) (λ _. f)
-      (λ _. if-cases Within (eqb (x .letter) 0x44) (λ _. f)
       (λ _. if-cases Within (eqb (x .letter) 0x4D) (λ _. (min-le-right _ _, min-le-right _ _))
       (λ _. if-cases Within (eqb (x .letter) 0x50) (λ _. f)
-      (λ _. if-cases Within (eqb (x .letter) 0x51) (λ _. f) (λ _. f)))))))
+      (λ _. if-cases Within (eqb (x .letter) 0x51) (λ _. f) (λ _. f))))))
 
 -- what is done and what is printed, by the letter
 module _ (x : Command) (payload : List ℕ) (w : Memory) where
@@ -45,22 +43,17 @@ module _ (x : Command) (payload : List ℕ) (w : Memory) where
 
   pub by-r : x .letter ≡ 0x52 → (carriedOut x payload w ≡ w) × (printed x payload w ≡ readPrinted (readBy x w))
   unfolding carriedOut printed pokedBy
-  by-r l = (rw (is l 0x53, is l 0x46, is l 0x4C, is l 0x44, is l 0x4D, is l 0x50, is l 0x51), rw (is l 0x53, is l 0x46, is l 0x52))
+  by-r l = (rw (is l 0x53, is l 0x46, is l 0x4C, is l 0x4D, is l 0x50, is l 0x51), rw (is l 0x53, is l 0x46, is l 0x52))
 
-  pub by-l : x .letter ≡ 0x4C → (carriedOut x payload w ≡ wasReleased x w) × (printed x payload w ≡ answerLine 0x4C (released (w .station) (x .b) .answer))
+  pub by-l : x .letter ≡ 0x4C → (carriedOut x payload w ≡ wasLetGo x w) × (printed x payload w ≡ letGoPrinted (letGoBy x w))
   unfolding carriedOut printed
   by-l l = (rw (is l 0x53, is l 0x46, is l 0x4C), rw (is l 0x53, is l 0x46, is l 0x52, is l 0x4C))
 
-  pub by-d : x .letter ≡ 0x44 → (carriedOut x payload w ≡ wasDropped x w) × (printed x payload w ≡ answerLine 0x44 (dropped (w .station) (x .b) .answer))
-  unfolding carriedOut printed
-  by-d l = (rw (is l 0x53, is l 0x46, is l 0x4C, is l 0x44), rw (is l 0x53, is l 0x46, is l 0x52, is l 0x4C, is l 0x44))
-
   pub by-h : x .letter ≡ 0x48 → (carriedOut x payload w ≡ w) × (printed x payload w ≡ shownBy w)
   unfolding carriedOut printed pokedBy
-  by-h l = (rw (is l 0x53, is l 0x46, is l 0x4C, is l 0x44, is l 0x4D, is l 0x50, is l 0x51), rw (is l 0x53, is l 0x46, is l 0x52, is l 0x4C, is l 0x44, is l 0x48))
+  by-h l = (rw (is l 0x53, is l 0x46, is l 0x4C, is l 0x4D, is l 0x50, is l 0x51), rw (is l 0x53, is l 0x46, is l 0x52, is l 0x4C, is l 0x48))
 
-  pub by-other : (x .letter ≡ 0x53 → ⊥) → (x .letter ≡ 0x46 → ⊥) → (x .letter ≡ 0x52 → ⊥) → (x .letter ≡ 0x4C → ⊥) → (x .letter ≡ 0x44 → ⊥)
+  pub by-other : (x .letter ≡ 0x53 → ⊥) → (x .letter ≡ 0x46 → ⊥) → (x .letter ≡ 0x52 → ⊥) → (x .letter ≡ 0x4C → ⊥)
       → (x .letter ≡ 0x48 → ⊥) → (carriedOut x payload w ≡ pokedBy x w) × (printed x payload w ≡ [])
   unfolding carriedOut printed
-  by-other s f r l d n =
-      (rw (ne-eqb _ _ s, ne-eqb _ _ f, ne-eqb _ _ l, ne-eqb _ _ d), rw (ne-eqb _ _ s, ne-eqb _ _ f, ne-eqb _ _ r, ne-eqb _ _ l, ne-eqb _ _ d, ne-eqb _ _ n))
+  by-other s f r l n = (rw (ne-eqb _ _ s, ne-eqb _ _ f, ne-eqb _ _ l), rw (ne-eqb _ _ s, ne-eqb _ _ f, ne-eqb _ _ r, ne-eqb _ _ l, ne-eqb _ _ n))

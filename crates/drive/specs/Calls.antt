@@ -1,4 +1,4 @@
--- What S, F, R, L and D do, on the octets lent, and what a command does by its letter. Assumes nothing.
+-- What S, F, R and L do, on the octets lent, and what a command does by its letter. Assumes nothing.
 use mathlib.Core.List.{List, _++_}
 use Prim.Native.Nat.{ℕ}
 use lib.Dec.{eqb}
@@ -7,7 +7,8 @@ use Rattle.octets.specs.Choice.{if_then_else_}
 use Rattle.state.specs.declared.Station.{Station}
 use Rattle.station.specs.SetUp.{SetUpOutcome, setUp}
 use Rattle.station.specs.Frame.{FrameOutcome, framed}
-use Rattle.station.specs.Files.{ReadOutcome, readOut, released, dropped}
+use Rattle.station.specs.declared.LetGo.{LetGo}
+use Rattle.station.specs.Files.{ReadOutcome, readOut, fileLetGo}
 use Rattle.script.specs.declared.Command.{Command}
 use Rattle.script.specs.Memory.{Memory, lentDesks, lentStore, withState, pokedBy}
 
@@ -41,18 +42,17 @@ tookFrame x unit w = with w (frameBy x unit w .station) (frameBy x unit w .desks
 abbrev pub readBy : Command → Memory → ReadOutcome
 readBy x w = readOut (w .station) (lentStore w) (x .b) (x .d) (replicate (x .c) 0)
 
--- L: "release of slot b"; D: "drop of slot b"
-unfoldable pub wasReleased : Command → Memory → Memory
-wasReleased x w = withState w (released (w .station) (x .b) .station)
+-- L: "lets the file of slot b go, complete or not"
+abbrev pub letGoBy : Command → Memory → LetGo
+letGoBy x w = fileLetGo (w .station) (x .b)
 
-unfoldable pub wasDropped : Command → Memory → Memory
-wasDropped x w = withState w (dropped (w .station) (x .b) .station)
+unfoldable pub wasLetGo : Command → Memory → Memory
+wasLetGo x w = withState w (letGoBy x w .station)
 
--- what a command does, by its letter: S, F, L and D, then M, P and Q; R and H change nothing
+-- what a command does, by its letter: S, F and L, then M, P and Q; R and H change nothing
 unfoldable pub carriedOut : Command → List ℕ → Memory → Memory
 carriedOut x payload w =
     if eqb (x .letter) 0x53 then wasSetUp x payload w
     else if eqb (x .letter) 0x46 then tookFrame x payload w
-    else if eqb (x .letter) 0x4C then wasReleased x w
-    else if eqb (x .letter) 0x44 then wasDropped x w
+    else if eqb (x .letter) 0x4C then wasLetGo x w
     else pokedBy x w

@@ -3,13 +3,14 @@ use mathlib.Core.List.{List, []}
 use Prim.Native.Nat.{ℕ}
 use lib.Dec.{eqb}
 use Rattle.octets.specs.Choice.{if_then_else_}
-use Rattle.lines.specs.Lines.{answerLine, frameLines, readLine}
+use Rattle.lines.specs.Lines.{answerLine, frameLines, readLine, letGoLine}
 use Rattle.show.specs.Shown.{shown}
 use Rattle.station.specs.Frame.{FrameOutcome}
-use Rattle.station.specs.Files.{ReadOutcome, released, dropped}
+use Rattle.station.specs.declared.LetGo.{LetGo}
+use Rattle.station.specs.Files.{ReadOutcome}
 use Rattle.script.specs.declared.Command.{Command}
 use Rattle.script.specs.Memory.{Memory, lentDesks, lentStore}
-use Rattle.drive.specs.Calls.{setUpBy, frameBy, readBy}
+use Rattle.drive.specs.Calls.{setUpBy, frameBy, readBy, letGoBy}
 
 -- "F answer count", and the lines of the events, of what comes of a frame
 abbrev pub framePrinted : FrameOutcome → List ℕ
@@ -18,6 +19,10 @@ framePrinted o = frameLines (o .answer) (o .events) (o .list)
 -- "R answer", and the octets, of what comes of a read
 abbrev pub readPrinted : ReadOutcome → List ℕ
 readPrinted o = readLine (o .answer) (o .buffer)
+
+-- "L answer", and the report, of what comes of letting a file go
+abbrev pub letGoPrinted : LetGo → List ℕ
+letGoPrinted o = letGoLine (o .answer) (o .complete)
 
 -- H: "shows everything", of the desks and of the store what is lent
 abbrev pub shownBy : Memory → List ℕ
@@ -29,7 +34,6 @@ printed x payload w =
     if eqb (x .letter) 0x53 then answerLine 0x53 (setUpBy x payload w .answer)
     else if eqb (x .letter) 0x46 then framePrinted (frameBy x payload w)
     else if eqb (x .letter) 0x52 then readPrinted (readBy x w)
-    else if eqb (x .letter) 0x4C then answerLine 0x4C (released (w .station) (x .b) .answer)
-    else if eqb (x .letter) 0x44 then answerLine 0x44 (dropped (w .station) (x .b) .answer)
+    else if eqb (x .letter) 0x4C then letGoPrinted (letGoBy x w)
     else if eqb (x .letter) 0x48 then shownBy w
     else []

@@ -1,4 +1,4 @@
-// S, F, R, L and D: a call of the station each, and the text of what it answered. H: everything shown.
+// S, F, R and L: a call of the station each, and the text of what it answered. H: everything shown.
 use script::Command;
 use script::Run;
 use state::Station;
@@ -10,10 +10,10 @@ ghost use Rattle.text.specs.Pieces.{Written};
 ghost use Rattle.lines.specs.Lines.{answerLine};
 ghost use Rattle.script.specs.Memory.{memory};
 ghost use Rattle.station.specs.Frame.{framed};
-ghost use Rattle.station.specs.Files.{readOut, released, dropped};
+ghost use Rattle.station.specs.Files.{readOut, fileLetGo};
 ghost use Rattle.station.specs.Handed.{WentOn};
-ghost use Rattle.drive.specs.Calls.{setUpBy, wasSetUp, frameBy, tookFrame, readBy, wasReleased, wasDropped};
-ghost use Rattle.drive.specs.Printed.{framePrinted, readPrinted, shownBy};
+ghost use Rattle.drive.specs.Calls.{setUpBy, wasSetUp, frameBy, tookFrame, readBy, wasLetGo};
+ghost use Rattle.drive.specs.Printed.{framePrinted, readPrinted, letGoPrinted, shownBy};
 
 // Set-up of the octets lent. The state after it is what set-up gave, also after a refusal.
 pub fn set_up(
@@ -38,29 +38,17 @@ pub fn set_up(
     r
 }
 
-pub fn release(w: Run, x: Command, out: &mut [u8]) -> Run
+// A file let go. It is lent nothing.
+pub fn let_file_go(w: Run, x: Command, out: &mut [u8]) -> Run
     requires { ⌜ length (now out) ≡ 90844 ⌝ }
-    ensures { λ r. ⌜ ((desks store : List ℕ) → memory r desks store ≡ wasReleased x (memory w desks store)) ⌝ }
-    ensures { λ r. ⌜ (r .end ≤ 90844) × Written (now (out .entry)) 0 (answerLine 0x4C (released (w .station) (x .b) .answer)) (now (out .exit)) (r .end) ⌝ }
+    ensures { λ r. ⌜ ((desks store : List ℕ) → memory r desks store ≡ wasLetGo x (memory w desks store)) ⌝ }
+    ensures { λ r. ⌜ (r .end ≤ 90844) × Written (now (out .entry)) 0 (letGoPrinted (fileLetGo (w .station) (x .b))) (now (out .exit)) (r .end) ⌝ }
 {
     let mut r = w;
-    let a = files::release(r.station, x.b);
+    let a = files::let_file_go(r.station, x.b);
     let after = a.station;
     r.station = after;
-    r.end = lines::answer_line(b'L', a.answer, out, 0);
-    r
-}
-
-pub fn drop_file(w: Run, x: Command, out: &mut [u8]) -> Run
-    requires { ⌜ length (now out) ≡ 90844 ⌝ }
-    ensures { λ r. ⌜ ((desks store : List ℕ) → memory r desks store ≡ wasDropped x (memory w desks store)) ⌝ }
-    ensures { λ r. ⌜ (r .end ≤ 90844) × Written (now (out .entry)) 0 (answerLine 0x44 (dropped (w .station) (x .b) .answer)) (now (out .exit)) (r .end) ⌝ }
-{
-    let mut r = w;
-    let a = files::drop_file(r.station, x.b);
-    let left = a.station;
-    r.station = left;
-    r.end = lines::answer_line(b'D', a.answer, out, 0);
+    r.end = lines::let_go_line(a.answer, a.complete, out, 0);
     r
 }
 

@@ -41,10 +41,7 @@ pub fn carry_out(
         return calls::read_file(w, x, store, out);
     }
     if letter == b'L' {
-        return calls::release(w, x, out);
-    }
-    if letter == b'D' {
-        return calls::drop_file(w, x, out);
+        return calls::let_file_go(w, x, out);
     }
     if letter == b'H' {
         return calls::show_lent(w, desks, store, out);

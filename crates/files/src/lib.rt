@@ -1,17 +1,17 @@
-// The calls on files: read, release, drop.
+// The calls on files: one reads a file, one lets it go.
 //
 // A slot is asked for first, and what is known of it decides. Each contract is one equation between everything that comes out and a
 // definition of the station's (station specs/Files.antt).
 use state::Station;
-use station::Answered;
 use station::Asked;
+use station::LetGo;
 use transport::Transport;
 ghost use mathlib.Core.Path.{_≡_};
 ghost use mathlib.Core.Bool.{true};
 ghost use Prim.Native.Nat.{_≤_, _<_};
 ghost use Rattle.state.specs.Slots.{slotAt, complete};
 ghost use Rattle.state.specs.Decision.{isSound};
-ghost use Rattle.station.specs.Files.{asked, goneBy, letGoAs, released, dropped, storeFits, readGives, readAs, readOut};
+ghost use Rattle.station.specs.Files.{asked, freed, fileLetGo, storeFits, readGives, readAs, readOut};
 
 // What every call that names a slot asks first.
 fn ask(s: Station, slot: u16) -> Asked
@@ -34,46 +34,37 @@ fn ask(s: Station, slot: u16) -> Asked
     Asked::Incomplete(k)
 }
 
-// The file of slot k let go, if this is the answer 0.
-fn gone_by(s: Station, k: usize, answer: u8) -> Answered
+// The file of slot k let go. Whether it is complete was asked before.
+fn free(s: Station, k: usize, complete: bool) -> LetGo
     requires { ⌜ (k < 32) × (s .blocks ≤ 4096) ⌝ }
-    ensures { λ r. ⌜ r ≡ goneBy s k answer ⌝ }
+    ensures { λ r. ⌜ r ≡ freed s k complete ⌝ }
 {
-    if answer != 0 {
-        return station::say(answer, s);
-    }
     let mut t = s;
     let head = s.head();
     let slots = s.slots;
     let after = blocks::let_go(head, &mut t.owner, slots, k);
     t.slots = after;
-    station::say(0, t)
-}
-
-// What release and drop share: the answer for a complete file, and the one for an incomplete file.
-fn let_go_as(s: Station, slot: u16, complete: u8, incomplete: u8) -> Answered
-    ensures { λ r. ⌜ r ≡ letGoAs s complete incomplete (asked s slot) ⌝ }
-{
-    let a = ask(s, slot);
-    match a {
-        Asked::Refused(n) => station::say(n, s),
-        Asked::Complete(k) => gone_by(s, k, complete),
-        Asked::Incomplete(k) => gone_by(s, k, incomplete),
+    LetGo {
+        answer: 0,
+        complete: complete,
+        station: t,
     }
 }
 
-// Lets a complete file go. Answers 0, 2, 11 or 12.
-pub fn release(s: Station, slot: u16) -> Answered
-    ensures { λ r. ⌜ r ≡ released s slot ⌝ }
+// Lets the file of a slot go, complete or not, and says with 0 whether it was complete. Answers 0, 2 or 11.
+pub fn let_file_go(s: Station, slot: u16) -> LetGo
+    ensures { λ r. ⌜ r ≡ fileLetGo s slot ⌝ }
 {
-    let_go_as(s, slot, 0, 12)
-}
-
-// Lets an incomplete file go. Answers 0, 2, 11 or 13.
-pub fn drop_file(s: Station, slot: u16) -> Answered
-    ensures { λ r. ⌜ r ≡ dropped s slot ⌝ }
-{
-    let_go_as(s, slot, 13, 0)
+    let a = ask(s, slot);
+    match a {
+        Asked::Refused(n) => LetGo {
+            answer: n,
+            complete: false,
+            station: s,
+        },
+        Asked::Complete(k) => free(s, k, true),
+        Asked::Incomplete(k) => free(s, k, false),
+    }
 }
 
 // Octets of the complete file in slot k, from an offset on, to fill a buffer.

@@ -31,17 +31,19 @@ use Rattle.zone.specs.Zone.{split}
 use Rattle.zone.specs.Walk.{deskAfter, gap}
 use Rattle.zone.proofs.Readings.{reading-first}
 use Rattle.station.specs.SetUp.{channelOf, freshStation, setUp}
-use Rattle.station.specs.Files.{answered, released}
+use Rattle.station.specs.Files.{freed, fileLetGo}
 use Rattle.station.proofs.Fresh.{fresh-desk}
-use Rattle.station.proofs.Calls.{setUp-zero, release-outcome, release-zero, read-zero}
+use Rattle.station.proofs.Calls.{setUp-zero, letGo-outcome, letGo-zero, read-zero}
 use Rattle.history.specs.Run.{World, Call, answer, after, run, Start, fresh}
-use Rattle.history.specs.Run.Call.{frame, read, release}
+use Rattle.history.specs.Run.Call.{frame, read, let-go}
+use Rattle.history.specs.Calls.{reported}
 use Rattle.history.specs.Things.{said}
 use Rattle.history.specs.Things.Thing.{packet, left}
 use Rattle.history.specs.Store.{Moment}
 use Rattle.history.proofs.Sound.{fresh-sound, world-sound, after-sound}
+use Rattle.history.proofs.LetGo.{reports}
 use Rattle.guards.specs.Sent.{Program, plain, sentOn, sent, tenFramesOn, tenFrames, allSaid, checked, long, first, middle, tiny, last, fill, wholeOf, whole, damaged, reserved, primary, twelveBits}
-use Rattle.guards.specs.Guards.{noneTouched, goodHeader, partOfAnOctet, readOut, headerRead, twoBlocks, threeBlocks, fiveBlocks, sevenBlocks, published, twoPackets, oneLost, heldFile, needsTwo, needsThree, needsSeven, freedAtOnce, lowerSlot, twoChannels, Runs, Guards}
+use Rattle.guards.specs.Guards.{noneTouched, goodHeader, partOfAnOctet, readOut, headerRead, twoBlocks, threeBlocks, fiveBlocks, sevenBlocks, published, twoPackets, oneLost, heldFile, needsTwo, needsThree, needsSeven, letGoEarly, freedAtOnce, lowerSlot, twoChannels, Runs, Guards}
 use Rattle.guards.proofs.Sending.{accepts, cut, ListensOn, Listens, MakesOn, Makes, makes-none, step, brings-packets, BringsOn, Brings}
 use Rattle.guards.proofs.Losses.{fresh-is, loss-runs}
 use Rattle.guards.proofs.Making.{MakesOneOn, MakesOne, makes-then}
@@ -88,20 +90,20 @@ turns-to d above low w L =
       silent = λ i l. L .silent i (omega arith);
     }
 
--- the file in slot 0, which is complete, is released
-release-brings : (n : ℕ) (x : Slot) (zs : List Slot) → complete x ≡ true → (w : World) → Listens w n [] (x ∷ zs)
-    → Brings w (release 0 ∷ []) n (noFile ∷ zs) []
+-- the file in slot 0 is let go
+let-go-brings : (n : ℕ) (x : Slot) (zs : List Slot) → held x ≡ true → (w : World) → Listens w n [] (x ∷ zs)
+    → Brings w (let-go 0 ∷ []) n (noFile ∷ zs) []
 unfolding run allSaid after said letGo
-release-brings n x zs done w L =
+let-go-brings n x zs there w L =
     let s = w .station in
-    let all : complete (slotAt s 0) ≡ true = rw (L .slots) done in
-    let zero : released s 0 .answer ≡ 0 = release-zero s 0 .1 (world-sound (L .sound), omega arith, all) in
-    let is : released s 0 ≡ answered 0 (letGo s 0) = release-outcome s 0 .done zero in
-    let listens : Listens (after w (release 0)) n [] (noFile ∷ zs) =
+    let here : held (slotAt s 0) ≡ true = rw (L .slots) there in
+    let zero : fileLetGo s 0 .answer ≡ 0 = letGo-zero s 0 .1 (world-sound (L .sound), omega arith, here) in
+    let is : fileLetGo s 0 ≡ freed s 0 (complete (slotAt s 0)) = letGo-outcome s 0 .done zero in
+    let listens : Listens (after w (let-go 0)) n [] (noFile ∷ zs) =
     rw is
     (record {
       named = L .named;
-      sound = rw is at (after-sound (L .sound) (release 0));
+      sound = rw is at (after-sound (L .sound) (let-go 0));
       craft = L .craft;
       channels = L .channels;
       watched = L .watched;
@@ -112,6 +114,10 @@ release-brings n x zs done w L =
       silent = L .silent;
     }) in
     record { listens = listens; tells = refl }
+
+-- and whether it was complete is reported
+let-go-reports : {n : ℕ} (x : Slot) {zs : List Slot} {w : World} → Listens w n [] (x ∷ zs) → reported w (let-go 0) ≡ complete x
+let-go-reports x L = reports (L .sound) 0 (omega arith) ∙ ap (λ (ys : List Slot). complete (getD ys 0 noFile)) (L .slots)
 
 -- the fresh station of the program
 module _ (x : Start) (p : Program x) where
@@ -260,6 +266,14 @@ module _ (list : List ℕ) (listed : 900 ≤ length list) where
         (alone 6 threeBlocks 10 (omega arith) (omega arith)
         (first-refused 6 threeBlocks (omega arith) (omega arith) refl (omega arith) (fileAt 5 fiveBlocks 0 ∷ others) refl {k = 1} refl (omega arith)))
 
+    -- a file that needs all blocks opens where no file is held
+    opens-seven : (n : ℕ) → n + 10 ≤ 256 → (w : World) → Listens w n [] none
+        → Brings w (tenFrames n (first 6 sevenBlocks ++ fill 642) list) (n + 10) (fileAt 6 sevenBlocks 0 ∷ others) (at 10 6 0 ∷ [])
+    unfolding complete goodLength need transportSize octetsOfBits fileFrom freeFrom ofPair incomplete held needs
+    opens-seven n few =
+        alone 6 sevenBlocks n (omega arith) few
+        (first-opens 6 sevenBlocks (omega arith) (omega arith) refl (omega arith) none refl refl (omega arith))
+
     seven-opens : Brings (fresh x) (needsSeven list) 50 (fileAt 6 sevenBlocks 0 ∷ others)
         (at 10 5 0 ∷ at 11 5 0 ∷ at 11 5 0 ∷ at 11 5 0 ∷ at 12 5 0 ∷ at 10 6 0 ∷ [])
     unfolding complete goodLength need transportSize octetsOfBits fileFrom freeFrom ofPair incomplete held needs
@@ -268,9 +282,12 @@ module _ (list : List ℕ) (listed : 900 ≤ length list) where
         (brings-then
         (brings-then
         (brings-then (brings-then five (goes-on 0 10 (omega arith) (omega arith))) (goes-on 1 20 (omega arith) (omega arith))) comes-to-end)
-        (release-brings 40 (fileAt 5 fiveBlocks 4) others refl))
-        (alone 6 sevenBlocks 40 (omega arith) (omega arith)
-        (first-opens 6 sevenBlocks (omega arith) (omega arith) refl (omega arith) none refl refl (omega arith)))
+        (let-go-brings 40 (fileAt 5 fiveBlocks 4) others refl))
+        (opens-seven 40 (omega arith))
+
+    seven-sooner : Brings (fresh x) (letGoEarly list) 20 (fileAt 6 sevenBlocks 0 ∷ others) (at 10 5 0 ∷ at 10 6 0 ∷ [])
+    unfolding held
+    seven-sooner = brings-then (brings-then five (let-go-brings 10 (fileAt 5 fiveBlocks 0) others refl)) (opens-seven 10 (omega arith))
 
     -- "F 0 0 2", "E 10 5 0", "E 12 5 0"
     as-published : Brings (fresh x) (published list) 1 (fileAt 5 8 0 ∷ others) (at 10 5 0 ∷ at 12 5 0 ∷ [])
@@ -306,7 +323,7 @@ module _ (list : List ℕ) (listed : 900 ≤ length list) where
         (whole-brings 4 0 (omega arith) (omega arith) (whole-opens 4 (omega arith) none refl refl (omega arith)) (fresh x) (fresh-listens x p))
         (alone 5 twoBlocks 1 (omega arith) (omega arith)
         (first-opens 5 twoBlocks (omega arith) (omega arith) refl (omega arith) (fileAt 4 8 0 ∷ others) refl refl (omega arith))))
-        (release-brings 11 (fileAt 4 8 0) old refl))
+        (let-go-brings 11 (fileAt 4 8 0) old refl))
         (whole-brings 5 11 (omega arith) (omega arith) (whole-over 5 (omega arith) (noFile ∷ old) 1 refl refl (omega arith)))
 
     -- no file of channel 2 and application 5 is there
@@ -388,6 +405,9 @@ module _ (list : List ℕ) (listed : 900 ≤ length list) where
           two-open = two-opens .tells;
           three-refused = three-gives-9 .tells;
           seven-open = seven-opens .tells;
+          seven-early = seven-sooner .tells;
+          reports-whole = let-go-reports (fileAt 5 twoBlocks 1) (completes .listens);
+          reports-part = let-go-reports (fileAt 5 fiveBlocks 0) (five .listens);
           freed-at-once = frees-at-once .tells;
           lower-slot = takes-lower .tells;
           none-touched = touches-none .tells;

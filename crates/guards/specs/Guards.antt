@@ -1,7 +1,7 @@
 -- Runs of real frames that meet the premises of the demands, so that none of these is empty: what each of them gives, to the last event.
 -- Assumes nothing.
 use mathlib.Core.Path.{_≡_}
-use mathlib.Core.Bool.{true}
+use mathlib.Core.Bool.{true, false}
 use mathlib.Core.List.{List, [], _∷_, _++_}
 use Prim.Native.Nat.{ℕ, _+_, _≤_}
 use lib.ListN.{length}
@@ -18,8 +18,8 @@ use Rattle.transport.specs.declared.Transport.{Transport}
 use Rattle.events.specs.Event.{of, at}
 use Rattle.judge.specs.Packets.{Starts}
 use Rattle.history.specs.Run.{Call, answer, run, Start, fresh}
-use Rattle.history.specs.Run.Call.{frame, read, release}
-use Rattle.history.specs.Calls.{resultOf}
+use Rattle.history.specs.Run.Call.{frame, read, let-go}
+use Rattle.history.specs.Calls.{resultOf, reported}
 use Rattle.history.specs.Store.{Moment}
 use Rattle.history.specs.Headers.{wholeRead}
 use Rattle.guards.specs.Losses.{LossRuns}
@@ -62,13 +62,17 @@ needsTwo list = heldFile list ++ tenFrames 10 (first 6 twoBlocks ++ fill 642) li
 abbrev pub needsThree : List ℕ → List Call
 needsThree list = heldFile list ++ tenFrames 10 (first 6 threeBlocks ++ fill 642) list
 
--- "after the held file's release N = 7 opens": the file of 5 comes to its end, and is released
+-- "after the held file's release N = 7 opens": the file of 5 comes to its end, and is let go
 abbrev pub needsSeven : List ℕ → List Call
 needsSeven list =
     heldFile list ++ tenFrames 10 (middle 5 1 ++ fill 642) list ++ tenFrames 20 (middle 5 2 ++ fill 642) list
     ++ tenFrames 30 (middle 5 3 ++ (last 5 4 ++ fill 633)) list
-    ++ (release 0 ∷ [])
+    ++ (let-go 0 ∷ [])
     ++ tenFrames 40 (first 6 sevenBlocks ++ fill 642) list
+
+-- "frees any held file" (02, 3/14): the same behind its first packet
+abbrev pub letGoEarly : List ℕ → List Call
+letGoEarly list = heldFile list ++ (let-go 0 ∷ []) ++ tenFrames 10 (first 6 sevenBlocks ++ fill 642) list
 
 -- "An abandoned .. file frees its slot and blocks", at once: all seven blocks are those of a file of 5; one frame brings its end, by a middle
 -- packet of one octet, and a whole file of 6 behind it
@@ -81,7 +85,7 @@ abbrev pub lowerSlot : List ℕ → List Call
 lowerSlot list =
     (frame (sent 0 0 (wholeOf 4 ++ fill 865)) list ∷ [])
     ++ tenFrames 1 (first 5 twoBlocks ++ fill 642) list
-    ++ (release 0 ∷ [])
+    ++ (let-go 0 ∷ [])
     ++ (frame (sent 11 0 (whole ++ fill 865)) list ∷ [])
 
 -- "for the file of this channel and application": the first packet comes on channel 0, the last one on channel 2
@@ -116,6 +120,10 @@ pub record Runs (x : Start) (list : List ℕ) : Type 0 where
   pub two-open : allSaid (fresh x) (needsTwo list) ≡ at 10 5 0 ∷ at 10 6 1 ∷ []
   pub three-refused : allSaid (fresh x) (needsThree list) ≡ at 10 5 0 ∷ of 9 6 ∷ []
   pub seven-open : allSaid (fresh x) (needsSeven list) ≡ at 10 5 0 ∷ at 11 5 0 ∷ at 11 5 0 ∷ at 11 5 0 ∷ at 12 5 0 ∷ at 10 6 0 ∷ []
+  pub seven-early : allSaid (fresh x) (letGoEarly list) ≡ at 10 5 0 ∷ at 10 6 0 ∷ []
+  -- "and reports whether it was complete" (02, 3/14)
+  pub reports-whole : reported (run (fresh x) (twoPackets list)) (let-go 0) ≡ true
+  pub reports-part : reported (run (fresh x) (heldFile list)) (let-go 0) ≡ false
   pub freed-at-once : allSaid (fresh x) (freedAtOnce list) ≡ at 10 5 0 ∷ at 6 5 0 ∷ at 10 6 0 ∷ at 12 6 0 ∷ []
   pub lower-slot : allSaid (fresh x) (lowerSlot list) ≡ at 10 4 0 ∷ at 12 4 0 ∷ at 10 5 1 ∷ at 6 5 1 ∷ at 10 5 0 ∷ at 12 5 0 ∷ []
   pub two-channels : allSaid (fresh x) (twoChannels list) ≡ at 10 5 0 ∷ of 5 5 ∷ []

@@ -12,6 +12,7 @@ use Rattle.history.proofs.Pages.{blocks-hold, files-carried}
 use Rattle.history.proofs.Carried.{pages-came, no-strip}
 use Rattle.history.proofs.Sorted.{sorted-by-channel, files-sorted}
 use Rattle.history.proofs.Freed.{held-then, frees-at-once}
+use Rattle.history.proofs.LetGo.{lets-go, reports-exactly, reads-refused}
 use Rattle.history.proofs.Once.{ruled-once}
 use Rattle.history.proofs.Openings.{every-frame}
 use Rattle.history.proofs.Channels.{every-channel-heard}
@@ -35,9 +36,11 @@ second =
       ruled = ruled-once;
       events = events-exactly;
       complete = complete-exactly;
+      reported = reports-exactly;
       in-order = λ x cs k y m. packets-right m;
       held = held-exactly;
       octets = files-carried;
+      reads = reads-refused;
       pages = pages-came;
       no-strip = no-strip;
       headers = headers-read;
@@ -53,6 +56,7 @@ third =
       kept = kept-or-ended;
       frees = frees-at-once;
       held-then = held-then;
+      lets-go = lets-go;
       event-6 = event-6-exactly;
       first-blocks = blocks-hold;
       room = refused-for-room-exactly;

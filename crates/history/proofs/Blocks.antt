@@ -29,7 +29,7 @@ use Rattle.zone.proofs.Split.{split-wholes}
 use Rattle.zone.specs.Walk.{deskAfter, readingOf, judgedAll, badEvents, walked}
 use Rattle.station.specs.Frame.{FrameOutcome, channelAt}
 use Rattle.history.specs.Run.{World, Call, answer, run, fresh, SoundWorld}
-use Rattle.history.specs.Run.Call.{frame, read, release, drop}
+use Rattle.history.specs.Run.Call.{frame, read, let-go}
 use Rattle.history.specs.Things.{Thing, did, didAll, examinedIn, splitIn, framedEvents, things, said}
 use Rattle.history.specs.Things.Thing.{packet, left, gone}
 use Rattle.history.specs.Follow.{ends, fate, follow, Fate}
@@ -37,17 +37,17 @@ use Rattle.history.specs.Follow.Fate.{Still, Ended}
 use Rattle.history.specs.Calls.{Told}
 use Rattle.history.specs.Store.{BlocksRight, Moment, worldAt, stationAt, storeAt, EveryPacket, Judgeable, Keeps, Leaves, OverCall, NeverLost, OverPacket, KeptOrEnded, Event6, Logged}
 use Rattle.history.specs.Store.OverCall.{still-there, at-its-end}
-use Rattle.history.specs.Store.Leaves.{by-event-6, by-release, by-drop}
+use Rattle.history.specs.Store.Leaves.{by-event-6, by-letting-go}
 use Rattle.history.specs.Store.OverPacket.{kept, ended}
 use Rattle.history.specs.Demands.{EveryRun}
 use Rattle.history.proofs.Framing.{Taken}
 use Rattle.history.proofs.Sound.{run-sound, fresh-sound}
-use Rattle.history.proofs.Moments.{Settled, settled, did-append, did-settled, did-frame, call-leaves, call-rightly, frame-taken, things-read, things-release, things-drop, things-refused, things-taken, taken-zero, moment-settled, moment-rightly}
+use Rattle.history.proofs.Moments.{Settled, settled, did-append, did-settled, did-frame, call-leaves, call-rightly, frame-taken, things-read, things-let-go, things-refused, things-taken, taken-zero, moment-settled, moment-rightly}
 use Rattle.history.proofs.Turns.{ends-exactly}
 use Rattle.history.proofs.Follows.{follow-on, follow-over, Fares, fares}
 
 -- "every store block is free or belongs to one held file at one place. A file needing N blocks holds N"
-station-blocks : {s : Station} → Sized s → Sound s → BlocksRight s
+pub station-blocks : {s : Station} → Sized s → Sound s → BlocksRight s
 station-blocks z S =
     record {
       each =
@@ -143,12 +143,9 @@ module _ {w : World} (h : SoundWorld w) (k : ℕ) where
   left-by : (c : Call) → answer w c ≡ 0 → Fares (w .station) (w .store) (things w c) k Ended → Leaves w k c
   left-by (frame f list) e g = left-by-frame f list e g
   left-by (read j offset buffer) e g = absurd (left-by-none (ending (things-read w j offset buffer) g))
-  left-by (release j) e g =
-      let q = left-by-gone j (ending (things-release w j e) g) in
-      subst (λ (i : ℕ). Leaves w k (release i)) q (by-release (ap (λ (i : ℕ). answer w (release i)) q ∙ e))
-  left-by (drop j) e g =
-      let q = left-by-gone j (ending (things-drop w j e) g) in
-      subst (λ (i : ℕ). Leaves w k (drop i)) q (by-drop (ap (λ (i : ℕ). answer w (drop i)) q ∙ e))
+  left-by (let-go j) e g =
+      let q = left-by-gone j (ending (things-let-go w j e) g) in
+      subst (λ (i : ℕ). Leaves w k (let-go i)) q (by-letting-go (ap (λ (i : ℕ). answer w (let-go i)) q ∙ e))
 
   over-call : (c : Call) (f : Fate) → follow k (slotAt (w .station) k) (things w c) ≡ f → Fares (w .station) (w .store) (things w c) k f
       → OverCall w k c
@@ -161,7 +158,7 @@ module _ {w : World} (h : SoundWorld w) (k : ℕ) where
         | no n ↦ absurd (left-by-none (ending (things-refused w c n) g))
       ]
 
--- "No opened file is ever lost for want of room: it leaves its slot only by event 6, .. or by a release or drop of it."
+-- "No opened file is ever lost for want of room: it leaves its slot only by event 6, .. or by" letting it go
 pub never-lost : EveryRun NeverLost
 never-lost x cs k low e c =
     let w = run (fresh x) cs in

@@ -20,14 +20,14 @@ use Rattle.state.specs.Sound.{deskOctets}
 use Rattle.room.proofs.Keeps.{letGo-refiles}
 use Rattle.judge.proofs.Keeps.{stays-refiled}
 use Rattle.zone.specs.Walk.{heldAt, readingOf, deskAfter}
-use Rattle.station.specs.declared.Answered.{Answered}
+use Rattle.station.specs.declared.LetGo.{LetGo}
 use Rattle.station.specs.SetUp.{SetUpOutcome, channelOf}
 use Rattle.station.specs.Frame.{FrameOutcome, channelAt}
 use Rattle.station.proofs.Fresh.{fresh-desk}
-use Rattle.station.proofs.Calls.{setUp-outcome, release-outcome, drop-outcome}
+use Rattle.station.proofs.Calls.{setUp-outcome, letGo-outcome}
 use Rattle.history.specs.Run as runs
 use Rattle.history.specs.Run.{World, Call, answer, run, Start, fresh, SoundWorld}
-use Rattle.history.specs.Run.Call.{frame, read, release, drop as letting}
+use Rattle.history.specs.Run.Call.{frame, read, let-go}
 use Rattle.history.specs.Things.{Thing, splitIn, things, allThings}
 use Rattle.history.specs.Things.Thing.{packet, left, gone}
 use Rattle.history.specs.Sorted.{headerChannel}
@@ -37,7 +37,7 @@ use Rattle.history.specs.Heard.Listened.{silence, one-more}
 use Rattle.history.proofs.Framing.{Taken}
 use Rattle.history.proofs.Refused.{every-answer}
 use Rattle.history.proofs.Sound.{taken-low, taken-keeps, after-sound, fresh-sound}
-use Rattle.history.proofs.Moments.{things-refused, things-read, things-release, things-drop, things-taken, frame-taken, taken-zero}
+use Rattle.history.proofs.Moments.{things-refused, things-read, things-let-go, things-taken, frame-taken, taken-zero}
 use Rattle.history.proofs.Sorted.{desk-sorted}
 use Rattle.history.proofs.Once.{closed}
 use Rattle.history.proofs.Openings.{under-same, frame-opens, desk-after}
@@ -172,21 +172,16 @@ module _ {w : World} (h : SoundWorld w) (i : ℕ) (low : i < w .station .channel
   done-heard (read k offset buffer) z fs ps e =
       quiet w w i (channelAt (w .station) i) fs ps [] (things w (read k offset buffer)) refl refl refl
       (under-none (channelAt (w .station) i) (things-read w k offset buffer)) e
-  done-heard (release k) z fs ps e =
-      quiet w (runs.after w (release k)) i (channelAt (w .station) i) fs ps [] (things w (release k))
-      (ap (λ (r : Answered). r .station .desks) (release-outcome (w .station) k .done z) ∙ stays-refiled (letGo-refiles (w .station) k) .desks) refl refl
-      (under-gone (channelAt (w .station) i) (things-release w k z)) e
-  done-heard (letting k) z fs ps e =
-      quiet w (runs.after w (letting k)) i (channelAt (w .station) i) fs ps [] (things w (letting k))
-      (ap (λ (r : Answered). r .station .desks) (drop-outcome (w .station) k .done z) ∙ stays-refiled (letGo-refiles (w .station) k) .desks) refl refl
-      (under-gone (channelAt (w .station) i) (things-drop w k z)) e
+  done-heard (let-go k) z fs ps e =
+      quiet w (runs.after w (let-go k)) i (channelAt (w .station) i) fs ps [] (things w (let-go k))
+      (ap (λ (r : LetGo). r .station .desks) (letGo-outcome (w .station) k .done z) ∙ stays-refiled (letGo-refiles (w .station) k) .desks) refl refl
+      (under-gone (channelAt (w .station) i) (things-let-go w k z)) e
 
   none-refused : (call : Call) → (answer w call ≡ 0 → ⊥) → acceptedIn w call (channelAt (w .station) i) ≡ []
   none-refused (frame f list) n =
       if-false (f ∷ []) [] (ap (λ (b : Bool). b && eqb (headerChannel f .0) (channelAt (w .station) i .0)) (ne-eqb (answer w (frame f list)) 0 n))
   none-refused (read k offset buffer) n = refl
-  none-refused (release k) n = refl
-  none-refused (letting k) n = refl
+  none-refused (let-go k) n = refl
 
   call-heard : (call : Call) → HeardOn w call (channelAt (w .station) i) i
   call-heard call =
@@ -207,14 +202,10 @@ module _ {w : World} (h : SoundWorld w) where
         channels = ap (λ (r : FrameOutcome). r .station .channels) (t .gives) ∙ k .channels;
       }
   done-watches (read k offset buffer) z = record { watched = refl; channels = refl }
-  done-watches (release k) z =
-      let e = release-outcome (w .station) k .done z in
+  done-watches (let-go k) z =
+      let e = letGo-outcome (w .station) k .done z in
       let r = stays-refiled (letGo-refiles (w .station) k) in
-      record { watched = ap (λ (a : Answered). a .station .watched) e ∙ r .watched; channels = ap (λ (a : Answered). a .station .channels) e ∙ r .channels }
-  done-watches (letting k) z =
-      let e = drop-outcome (w .station) k .done z in
-      let r = stays-refiled (letGo-refiles (w .station) k) in
-      record { watched = ap (λ (a : Answered). a .station .watched) e ∙ r .watched; channels = ap (λ (a : Answered). a .station .channels) e ∙ r .channels }
+      record { watched = ap (λ (a : LetGo). a .station .watched) e ∙ r .watched; channels = ap (λ (a : LetGo). a .station .channels) e ∙ r .channels }
 
   call-watches : (call : Call) → Watches w (runs.after w call)
   call-watches call =

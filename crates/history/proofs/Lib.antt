@@ -13,6 +13,7 @@ pub mod Pages
 pub mod Carried
 pub mod Sorted
 pub mod Freed
+pub mod LetGo
 pub mod Once
 pub mod Openings
 pub mod Heard

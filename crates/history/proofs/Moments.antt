@@ -14,7 +14,6 @@ use Rattle.frame.specs.Header.{derandomised, zoneOf}
 use Rattle.state.specs.declared.Desk.{Desk}
 use Rattle.state.specs.declared.Station.{Station}
 use Rattle.state.specs.Sound.{Sized, Sound, DeskHolds}
-use Rattle.room.specs.Move.{letGo}
 use Rattle.room.proofs.Keeps.{refiled-sized, letGo-refiles, letGo-sound}
 use Rattle.judge.specs.Judge.{Judged, gives, after, judged}
 use Rattle.judge.specs.Contract.{Watched}
@@ -22,14 +21,12 @@ use Rattle.judge.proofs.Keeps.{stays-sized, stays-watched, stays-refiled, judge
 use Rattle.zone.specs.Walk.{judgedAll, deskAfter, readingOf, withDesk, walked}
 use Rattle.zone.proofs.Split.{unfinished-few, split-left}
 use Rattle.zone.proofs.Walks.{after-after, desk-sized, desk-sound}
-use Rattle.station.specs.declared.Answered.{Answered}
-use Rattle.station.specs.Files.{answered, released, dropped}
 use Rattle.station.specs.Frame.{FrameOutcome, channelAt}
-use Rattle.station.proofs.Calls.{release-outcome, drop-outcome, release-zero, drop-zero}
+use Rattle.station.proofs.Calls.{letGo-outcome, letGo-zero}
 use Rattle.station.proofs.Sorted.{desk-watched}
 use Rattle.history.specs.Run as runs
 use Rattle.history.specs.Run.{World, Call, answer, run, SoundWorld}
-use Rattle.history.specs.Run.Call.{frame, read, release, drop}
+use Rattle.history.specs.Run.Call.{frame, read, let-go}
 use Rattle.history.specs.Things.{Thing, did, didAll, examinedIn, splitIn, framedThings, things, allThings}
 use Rattle.history.specs.Things.Thing.{packet, left, gone}
 use Rattle.history.specs.Store.{Moment, worldAt, stationAt, storeAt}
@@ -142,20 +139,15 @@ module _ (w : World) where
   unfolding things
   things-refused (frame f list) n = if-false (framedThings w f (examinedIn w f)) [] (ne-eqb (answer w (frame f list)) 0 n)
   things-refused (read k offset buffer) n = refl
-  things-refused (release k) n = if-false (gone k ∷ []) [] (ne-eqb (answer w (release k)) 0 n)
-  things-refused (drop k) n = if-false (gone k ∷ []) [] (ne-eqb (answer w (drop k)) 0 n)
+  things-refused (let-go k) n = if-false (gone k ∷ []) [] (ne-eqb (answer w (let-go k)) 0 n)
 
   pub things-read : (k offset : ℕ) (buffer : List ℕ) → things w (read k offset buffer) ≡ []
   unfolding things
   things-read k offset buffer = refl
 
-  pub things-release : (k : ℕ) → answer w (release k) ≡ 0 → things w (release k) ≡ gone k ∷ []
+  pub things-let-go : (k : ℕ) → answer w (let-go k) ≡ 0 → things w (let-go k) ≡ gone k ∷ []
   unfolding things
-  things-release k e = if-true (gone k ∷ []) [] (eq-eqb (answer w (release k)) 0 e)
-
-  pub things-drop : (k : ℕ) → answer w (drop k) ≡ 0 → things w (drop k) ≡ gone k ∷ []
-  unfolding things
-  things-drop k e = if-true (gone k ∷ []) [] (eq-eqb (answer w (drop k)) 0 e)
+  things-let-go k e = if-true (gone k ∷ []) [] (eq-eqb (answer w (let-go k)) 0 e)
 
   module _ {f list : List ℕ} (t : Taken w f list) where
     pub taken-zero : answer w (frame f list) ≡ 0
@@ -181,11 +173,6 @@ pub record Leaves (w : World) (ts : List Thing) (v : World) : Type 0 where
   pub store : didAll (w .station) (w .store) ts .store ≡ v .store
 
 module _ (w : World) where
-  gone-leaves : (k : ℕ) (r : Answered) (ts : List Thing) → r ≡ answered 0 (letGo (w .station) k) → ts ≡ gone k ∷ []
-      → Leaves w ts (record { station = r .station; desks = w .desks; store = w .store })
-  unfolding did didAll
-  gone-leaves k r ts e q = rw (q, e) (record { station = refl; store = refl })
-
   frame-leaves : (f list : List ℕ) → Taken w f list → Leaves w (things w (frame f list)) (runs.after w (frame f list))
   unfolding runs.after walked
   frame-leaves f list t =
@@ -204,13 +191,10 @@ module _ (w : World) where
   nothing-leaves v ts e q = rw (e, q) (record { station = refl; store = refl })
 
   done-leaves : (c : Call) → answer w c ≡ 0 → Leaves w (things w c) (runs.after w c)
-  unfolding runs.after answer
+  unfolding runs.after answer did didAll
   done-leaves (frame f list) e = frame-leaves f list (frame-taken w f list e)
   done-leaves (read k offset buffer) e = nothing-leaves w (things w (read k offset buffer)) refl (things-read w k offset buffer)
-  done-leaves (release k) e =
-      gone-leaves k (released (w .station) k) (things w (release k)) (release-outcome (w .station) k .done e) (things-release w k e)
-  done-leaves (drop k) e =
-      gone-leaves k (dropped (w .station) k) (things w (drop k)) (drop-outcome (w .station) k .done e) (things-drop w k e)
+  done-leaves (let-go k) e = rw (things-let-go w k e, letGo-outcome (w .station) k .done e) (record { station = refl; store = refl })
 
   pub call-leaves : (c : Call) → Leaves w (things w c) (runs.after w c)
   call-leaves c =
@@ -237,8 +221,7 @@ module _ {w : World} (h : SoundWorld w) where
   unfolding answer
   done-rightly (frame f list) e = frame-rightly f list (frame-taken w f list e)
   done-rightly (read k offset buffer) e = rw (things-read w k offset buffer) tt
-  done-rightly (release k) e = rw (things-release w k e) (release-zero (w .station) k .0 e .1, tt)
-  done-rightly (drop k) e = rw (things-drop w k e) (drop-zero (w .station) k .0 e .1, tt)
+  done-rightly (let-go k) e = rw (things-let-go w k e) (letGo-zero (w .station) k .0 e .1, tt)
 
   pub call-rightly : (c : Call) → AllRightly (w .station) (w .store) (things w c)
   call-rightly c =

@@ -37,7 +37,7 @@ use Rattle.history.specs.Things.{Thing, did, didAll, things}
 use Rattle.history.specs.Ledger.{Page, Ledger, notedBy, notedAll, ledgerAfter, ledgerRun, noPages}
 use Rattle.history.specs.Calls.{resultOf}
 use Rattle.history.specs.Files.{entrySize, PageRight, carried, FileRight, BlocksHold, FilesCarried}
-use Rattle.history.proofs.Sound.{after-sound, fresh-sound, run-sound, world-sound}
+use Rattle.history.proofs.Sound.{after-sound, fresh-sound, run-sound, world-sound, world-store}
 use Rattle.history.proofs.Moments.{Settled, settled, AllRightly, did-settled, call-leaves, call-rightly}
 use Rattle.history.proofs.Follows.{complete-held, fresh-held}
 use Rattle.history.proofs.Joined.{Full, joined-length, joined-at, joined-blocks}
@@ -214,11 +214,8 @@ module _ {w : World} (h : SoundWorld w) (k : ℕ) (low : k < 32) (done : complet
   reads offset buffer l =
       let s = w .station in
       let n = octetsOfBits (slotAt s k .bits) in
-      let fits =
-      and-both (and-both (le-leb 1 (s .blocks) (h .sound .setUp .store)) (le-leb (s .blocks) 4096 (h .sound .setUp .least)))
-      (eq-eqb (length (w .store)) (8190 * s .blocks) (h .stored)) in
       let inside = and-both (le-leb offset n (omega arith)) (le-leb (length buffer) (n - offset) (omega arith)) in
-      let zero = read-zero s k (w .store) offset buffer .1 (fits, world-sound h, low, done, inside) in (
+      let zero = read-zero s k (w .store) offset buffer .1 (world-store h, world-sound h, low, done, inside) in (
         zero,
         ap (λ (o : ReadOutcome). o .buffer) (read-outcome s k (w .store) offset buffer .done zero)
             ∙ ap (part offset (length buffer)) file-octets,

@@ -10,14 +10,15 @@ use Rattle.state.specs.Plainly.{Stray}
 use Rattle.state.proofs.Exactly.{sound-yes}
 use Rattle.state.proofs.Plainly.{stray-refused}
 use Rattle.octets.specs.Reasons.{Reason}
+use Rattle.station.specs.declared.LetGo.{LetGo}
 use Rattle.station.specs.Files.{ReadOutcome}
 use Rattle.station.specs.Frame.{FrameOutcome, lentRight}
 use Rattle.station.proofs.Decided.{Outcome}
 use Rattle.station.proofs.Frames.{lent-desks, lent-wrong, unsound, desks-unsound}
-use Rattle.station.proofs.Calls.{frame-outcome, release-outcome, drop-outcome, read-outcome, setUp-outcome, setUp-ten}
+use Rattle.station.proofs.Calls.{frame-outcome, letGo-outcome, read-outcome, setUp-outcome, setUp-ten}
 use Rattle.history.specs.Run.{World, Call, answer, after}
-use Rattle.history.specs.Run.Call.{frame, read, release, drop}
-use Rattle.history.specs.Calls.{ByNumber, resultOf, eventCount, Answers, ZerosAfter, SetsUp}
+use Rattle.history.specs.Run.Call.{frame, read, let-go}
+use Rattle.history.specs.Calls.{ByNumber, resultOf, eventCount, reported, Answers, ZerosAfter, SetsUp}
 
 by-number : {A : Type 0} {answer : A → ℕ} {rs : List Reason} {d : A} {f : ℕ → A} {r : A} → Outcome answer rs d f r → ByNumber rs (answer r)
 by-number {answer = answer} {r = r} o =
@@ -31,7 +32,7 @@ by-number {answer = answer} {r = r} o =
 -- call changes no octet of desks or store, no slot and no event."
 module _ (w : World) where
   pub every-answer : (c : Call) → Answers w c
-  unfolding answer after resultOf eventCount
+  unfolding answer after resultOf eventCount reported
   every-answer (frame f list) =
       let o = frame-outcome (w .station) (w .desks) (w .store) list f in
       record {
@@ -43,6 +44,7 @@ module _ (w : World) where
               world = ap (λ (r : FrameOutcome). record { station = r .station; desks = r .desks; store = r .store }) (o .refused h .0);
               lent = ap (λ (r : FrameOutcome). r .list) (o .refused h .0);
               events = ap (λ (r : FrameOutcome). r .events) (o .refused h .0);
+              report = refl;
             };
       }
   every-answer (read k offset buffer) =
@@ -50,10 +52,10 @@ module _ (w : World) where
       record {
         number = by-number o;
         lowest = o .lowest refl;
-        refused = λ h. record { world = refl; lent = ap (λ (r : ReadOutcome). r .buffer) (o .refused h .0); events = refl };
+        refused = λ h. record { world = refl; lent = ap (λ (r : ReadOutcome). r .buffer) (o .refused h .0); events = refl; report = refl };
       }
-  every-answer (release k) =
-      let o = release-outcome (w .station) k in
+  every-answer (let-go k) =
+      let o = letGo-outcome (w .station) k in
       record {
         number = by-number o;
         lowest = o .lowest refl;
@@ -63,19 +65,7 @@ module _ (w : World) where
               world = λ i. record { station = o .refused h .0 i .station; desks = w .desks; store = w .store };
               lent = refl;
               events = refl;
-            };
-      }
-  every-answer (drop k) =
-      let o = drop-outcome (w .station) k in
-      record {
-        number = by-number o;
-        lowest = o .lowest refl;
-        refused =
-            λ h.
-            record {
-              world = λ i. record { station = o .refused h .0 i .station; desks = w .desks; store = w .store };
-              lent = refl;
-              events = refl;
+              report = ap (λ (r : LetGo). r .complete) (o .refused h .0);
             };
       }
 

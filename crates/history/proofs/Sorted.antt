@@ -19,7 +19,7 @@ use Rattle.station.specs.Frame.{channelAt}
 use Rattle.station.proofs.Sorted.{desk-channel}
 use Rattle.history.specs.Run as runs
 use Rattle.history.specs.Run.{World, Call, answer, run, Start, fresh, SoundWorld}
-use Rattle.history.specs.Run.Call.{frame, read, release, drop}
+use Rattle.history.specs.Run.Call.{frame, read, let-go}
 use Rattle.history.specs.Things.{Thing, splitIn, things, allThings}
 use Rattle.history.specs.Things.Thing.{packet, left, gone}
 use Rattle.history.specs.Follow.{Fate, fate, follow, addedBy, added}
@@ -27,7 +27,7 @@ use Rattle.history.specs.Follow.Fate.{Still, Ended}
 use Rattle.history.specs.Store.{Moment}
 use Rattle.history.specs.Sorted.{headerChannel, Names, SortedByChannel, Brought, FilesSorted}
 use Rattle.history.proofs.Framing.{Taken}
-use Rattle.history.proofs.Moments.{things-refused, things-read, things-release, things-drop, things-taken, frame-taken}
+use Rattle.history.proofs.Moments.{things-refused, things-read, things-let-go, things-taken, frame-taken}
 use Rattle.history.proofs.Follows.{follow-on, follow-over}
 use Rattle.history.proofs.Order.{never-still, still-same, added-on, Next, next-as}
 use Rattle.history.proofs.Order.Next.{none, one}
@@ -81,8 +81,7 @@ module _ (w : World) {c : Channel} {p : List ℕ} where
         among = m;
       }
   brought-now (read k offset buffer) cs m = absurd (List·Memᴰ·not-nil (subst (List·Memᴰ (packet c p)) (things-read w k offset buffer) m))
-  brought-now (release k) cs m = absurd (never-gone (subst (List·Memᴰ (packet c p)) (things-release w k (done (release k) m)) m))
-  brought-now (drop k) cs m = absurd (never-gone (subst (List·Memᴰ (packet c p)) (things-drop w k (done (drop k) m)) m))
+  brought-now (let-go k) cs m = absurd (never-gone (subst (List·Memᴰ (packet c p)) (things-let-go w k (done (let-go k) m)) m))
 
 brought-later : {w : World} {c : Channel} {p : List ℕ} (call : Call) (cs : List Call) → Brought (runs.after w call) cs c p → Brought w (call ∷ cs) c p
 unfolding run

@@ -19,15 +19,13 @@ use Rattle.zone.specs.Walk.{walked}
 use Rattle.zone.specs.Contract.{Lent}
 use Rattle.zone.proofs.Readings.{start-within}
 use Rattle.zone.proofs.Walks.{Kept, walked-keeps}
-use Rattle.station.specs.declared.Answered.{Answered}
-use Rattle.octets.specs.Reasons.{Reason}
-use Rattle.station.specs.Answers.{slotSays}
+use Rattle.station.specs.Files.{storeFits}
 use Rattle.station.specs.Frame.{channelAt}
 use Rattle.station.proofs.Frames.{framed-few}
-use Rattle.station.proofs.Calls.{Goes, setUp-ready, goes-ready, release-outcome, drop-outcome, frame-never-2, release-never-2, drop-never-2, read-never-2}
+use Rattle.station.proofs.Calls.{setUp-ready, letGo-ready, frame-never-2, letGo-never-2, read-never-2}
 use Rattle.station.proofs.Sorted.{desk-low, desk-watched}
 use Rattle.history.specs.Run.{World, Call, answer, after, run, Start, fresh, SoundWorld}
-use Rattle.history.specs.Run.Call.{frame, read, release, drop}
+use Rattle.history.specs.Run.Call.{frame, read, let-go}
 use Rattle.history.specs.Things.{examinedIn}
 use Rattle.history.specs.Demands.{EveryRun, NeverUnsound, FewEvents}
 use Rattle.history.proofs.Framing.{Taken, Framing, takes-good, framing, taken-list}
@@ -40,15 +38,15 @@ module _ {w : World} (h : SoundWorld w) where
   pub world-desks : areDesksSound (w .station) (w .desks) ≡ true
   world-desks = desks-true (w .desks) (h .sized) (h .sound) (h .desked) (h .desks)
 
+  pub world-store : storeFits (w .station .blocks) (w .store) ≡ true
+  world-store =
+      let n = w .station .blocks in
+      and-both (and-both (le-leb 1 n (h .sound .setUp .store)) (le-leb n 4096 (h .sound .setUp .least))) (eq-eqb _ _ (h .stored))
+
   -- and takes every good frame with a list of the size that is asked for
   pub sound-takes : (f list : List ℕ) {a : Accepted} → examinedIn w f ≡ Good a → 900 ≤ length list → (t : Taken w f list) × (t .frame ≡ a)
   sound-takes f list {a} e room =
-      let s = w .station in
-      let lent =
-      and-both
-      (and-both (eq-eqb _ _ (h .desked))
-      (and-both (and-both (le-leb 1 (s .blocks) (h .sound .setUp .store)) (le-leb (s .blocks) 4096 (h .sound .setUp .least))) (eq-eqb _ _ (h .stored))))
-      (le-leb 900 (length list) room) in
+      let lent = and-both (and-both (eq-eqb _ _ (h .desked)) world-store) (le-leb 900 (length list) room) in
       let t = takes-good w f list lent world-sound world-desks e in
       let good : examinedIn w f ≡ Good (t .frame) = t .good in
       (t, cc)
@@ -96,23 +94,17 @@ module _ {w : World} (h : SoundWorld w) where
         stored = k .stored ∙ h .stored ∙ ap (λ (n : ℕ). 8190 * n) (sym (k .blocks));
       })
 
-  goes-keeps : (k : ℕ) {rs : List Reason} {r : Answered} → Goes (w .station) k (slotSays (w .station) k rs) r
-      → SoundWorld (record { station = r .station; desks = w .desks; store = w .store })
-  goes-keeps k g = goes-ready k g (w .desks) (w .store) h
-
   pub after-sound : (c : Call) → SoundWorld (after w c)
   unfolding after
   after-sound (frame f list) = frame-keeps f list (framing w f list)
   after-sound (read k offset buffer) = h
-  after-sound (release k) = goes-keeps k (release-outcome (w .station) k)
-  after-sound (drop k) = goes-keeps k (drop-outcome (w .station) k)
+  after-sound (let-go k) = letGo-ready (w .station) k (w .desks) (w .store) h
 
   pub answered-not-2 : (c : Call) → answer w c ≡ 2 → ⊥
   unfolding answer
   answered-not-2 (frame f list) = frame-never-2 (w .station) 0 world-sound (w .desks) (w .store) list f world-desks
   answered-not-2 (read k offset buffer) = read-never-2 (w .station) k world-sound (w .store) offset buffer
-  answered-not-2 (release k) = release-never-2 (w .station) k world-sound
-  answered-not-2 (drop k) = drop-never-2 (w .station) k world-sound
+  answered-not-2 (let-go k) = letGo-never-2 (w .station) k world-sound
 
 pub run-sound : {w : World} → SoundWorld w → (cs : List Call) → SoundWorld (run w cs)
 unfolding run

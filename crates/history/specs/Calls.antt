@@ -1,6 +1,6 @@
 -- Demand 1: what each call answers, of any octets and any state, reached or not; and that a refused call changes nothing. Assumes nothing.
 use mathlib.Core.Path.{_≡_}
-use mathlib.Core.Bool.{true}
+use mathlib.Core.Bool.{Bool, true, false}
 use mathlib.Core.List.{List, [], _∷_}
 use Prim.Native.Nat.{ℕ, _≤_}
 use lib.ListN.{length}
@@ -11,19 +11,18 @@ use Rattle.state.specs.Plainly.{Stray}
 use Rattle.state.specs.Decision.{among}
 use Rattle.events.specs.Event.{flat}
 use Rattle.station.specs.SetUp.{setUpGives, setUp}
-use Rattle.station.specs.Files.{readOut}
+use Rattle.station.specs.Files.{fileLetGo, readOut}
 use Rattle.octets.specs.Reasons.{Reason, numbers, applies}
-use Rattle.station.specs.Answers.{setUpSays, frameSays, readSays, releaseSays, dropSays}
+use Rattle.station.specs.Answers.{setUpSays, frameSays, readSays, letGoSays}
 use Rattle.history.specs.Run.{World, Call, frameIn, answer, after}
-use Rattle.history.specs.Run.Call.{frame, read, release, drop}
+use Rattle.history.specs.Run.Call.{frame, read, let-go}
 use Rattle.history.specs.Things.{said}
 
 -- the numbers of a call in the order in which they are tried, each with its test: the tables of "What the station says"
 abbrev pub says : World → Call → List Reason
 says w (frame f list) = frameSays (w .station) (w .desks) (w .store) list f
 says w (read k offset buffer) = readSays (w .station) (w .store) k offset (length buffer)
-says w (release k) = releaseSays (w .station) k
-says w (drop k) = dropSays (w .station) k
+says w (let-go k) = letGoSays (w .station) k
 
 -- n is 0 where no number of a table applies, and else one that does
 pub record ByNumber (rs : List Reason) (n : ℕ) : Type 0 where
@@ -35,28 +34,32 @@ pub record ByNumber (rs : List Reason) (n : ℕ) : Type 0 where
 abbrev pub lentFor : Call → List ℕ
 lentFor (frame f list) = list
 lentFor (read k offset buffer) = buffer
-lentFor (release k) = []
-lentFor (drop k) = []
+lentFor (let-go k) = []
 
 -- and what stands in it afterwards
 unfoldable pub resultOf : World → Call → List ℕ
 resultOf w (frame f list) = frameIn w f list .list
 resultOf w (read k offset buffer) = readOut (w .station) (w .store) k offset buffer .buffer
-resultOf w (release k) = []
-resultOf w (drop k) = []
+resultOf w (let-go k) = []
 
 -- how many events a call says that it gave
 unfoldable pub eventCount : World → Call → ℕ
 eventCount w (frame f list) = frameIn w f list .events
 eventCount w (read k offset buffer) = 0
-eventCount w (release k) = 0
-eventCount w (drop k) = 0
+eventCount w (let-go k) = 0
 
--- "changes no octet of desks or store, no slot and no event"
+-- what a call reports beside its number: of a file that is let go, "whether it was complete" (02, 3/14)
+unfoldable pub reported : World → Call → Bool
+reported w (frame f list) = false
+reported w (read k offset buffer) = false
+reported w (let-go k) = fileLetGo (w .station) k .complete
+
+-- "changes no octet of desks or store, no slot and no event"; "Every number but 0 carries no other result"
 pub record NothingChanged (w : World) (c : Call) : Type 0 where
   pub world : after w c ≡ w
   pub lent : resultOf w c ≡ lentFor c
   pub events : eventCount w c ≡ 0
+  pub report : reported w c ≡ false
 
 pub record Answers (w : World) (c : Call) : Type 0 where
   -- "answers by the rules paper's numbers"

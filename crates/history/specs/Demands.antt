@@ -16,16 +16,17 @@ use Rattle.state.specs.Sound.{Sized}
 use Rattle.history.specs.Run.{World, Call, frameIn, answer, run, Start, fresh, SoundWorld}
 use Rattle.history.specs.Run.Call.{frame}
 use Rattle.history.specs.Calls.{Answers, ZerosAfter, SetsUp, Told}
-use Rattle.history.specs.Files.{CameInRun, PacketsRight, HeldExactly, CompleteExactly, BlocksHold, FilesCarried, PagesCame, NoStrip}
+use Rattle.history.specs.Files.{CameInRun, PacketsRight, HeldExactly, CompleteExactly, ReportsExactly, BlocksHold, FilesCarried, ReadsRefused, PagesCame, NoStrip}
 use Rattle.history.specs.Sorted.{SortedByChannel, FilesSorted}
-use Rattle.history.specs.Freed.{HeldThen, FreesAtOnce}
+use Rattle.history.specs.Freed.{HeldThen, FreesAtOnce, LetsGo}
 use Rattle.history.specs.Heard.{EveryChannelHeard}
 use Rattle.history.specs.Openings.{EveryFrame, RuledOnce}
 use Rattle.history.specs.Events.{EventsExactly}
 use Rattle.history.specs.Headers.{HeadersRead}
 use Rattle.history.specs.Store.{BlocksRight, Moment, EveryPacket, Judgeable, FromTheFirst, NeverLost, KeptOrEnded, Event6, RefusedForRoom, Logged}
 
--- "From a fresh station, after any sequence of frames, reads, releases and drops, with state and memory handed back untouched"
+-- "From a fresh station, after any sequence of frames, reads, releases and drops, with state and memory handed back untouched": releases and
+-- drops are one call now, and "Demand 3's list of calls follows" (02, 3/14)
 abbrev pub EveryRun : (World → Type 0) → Type 0
 EveryRun P = (x : Start) (cs : List Call) → P (run (fresh x) cs)
 
@@ -72,12 +73,16 @@ pub record Second : Type 0 where
   pub events : EveryPacket EventsExactly
   -- "A file is complete exactly when it was opened and all its packets then came .. with nothing ending it by the paper's rules."
   pub complete : OfEveryRun CompleteExactly
+  -- "and reports whether it was complete" (02, 3/14)
+  pub reported : OfEveryRun ReportsExactly
   -- ".. intact, in order"
   pub in-order : (x : Start) (cs : List Call) (k : ℕ) (y : Slot) (m : CameInRun x cs k y) → PacketsRight m
   -- a slot holds what came so, and nothing else
   pub held : OfEveryRun HeldExactly
   -- "Its octets are those its packets carried"
   pub octets : OfEveryRun FilesCarried
+  -- "12 stays for reads, 11 stays" (02, 3/14): what is no octet of a complete file is not read
+  pub reads : EveryRun ReadsRefused
   pub pages : OfEveryRun PagesCame
   -- no "strip of cloud from one picture sewn into another"
   pub no-strip : OfEveryRun NoStrip
@@ -91,12 +96,14 @@ pub record Third : Type 0 where
   -- "A file needing N blocks holds N from its first packet"
   pub from-the-first : EveryPacket FromTheFirst
   -- ".. to its end": over a call, and over each packet of a frame. "No opened file is ever lost for want of room: it leaves its slot only
-  -- by event 6, .. or by a release or drop of it."
+  -- by event 6, .. or by" letting it go
   pub to-its-end : EveryRun NeverLost
   pub kept : EveryPacket KeptOrEnded
   -- "An abandoned .. file frees its slot and blocks", at once; what a slot holds at every packet
   pub frees : EveryPacket FreesAtOnce
   pub held-then : (m : Moment) → HeldThen m
+  -- "one operation that frees any held file" (02, 3/14)
+  pub lets-go : EveryRun LetsGo
   -- "event 6, whose rules never look at room"
   pub event-6 : EveryPacket Event6
   -- "and its first blocks hold the data of its accepted packets in order"

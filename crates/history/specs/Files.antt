@@ -1,6 +1,6 @@
 -- Demand 2: when a file is complete, and that its octets are those its packets carried. Assumes nothing.
 use mathlib.Core.Path.{_≡_}
-use mathlib.Core.Bool.{true}
+use mathlib.Core.Bool.{true, false}
 use mathlib.Core.Logic.{_↔_}
 use mathlib.Core.List.{List, [], _∷_, _++_, map, flatten}
 use Prim.Native.Nat.{ℕ, _+_, _/_, _%_, _≤_, _<_}
@@ -21,8 +21,8 @@ use Rattle.events.specs.Event.{at, Among}
 use Rattle.judge.specs.Judge.{dataOf, firstSlot, nextSlot, judged}
 use Rattle.judge.specs.Packets.{Undamaged, Starting, Starts, Following}
 use Rattle.history.specs.Run.{World, Call, answer, run, Start, fresh}
-use Rattle.history.specs.Run.Call.{read}
-use Rattle.history.specs.Calls.{resultOf}
+use Rattle.history.specs.Run.Call.{read, let-go}
+use Rattle.history.specs.Calls.{resultOf, reported}
 use Rattle.history.specs.Things.{Thing, didAll, allThings}
 use Rattle.history.specs.Things.Thing.{packet}
 use Rattle.history.specs.Follow.{follow, added}
@@ -61,12 +61,18 @@ HoldsWhatCame x ts s =
 abbrev pub HeldExactly : Start → List Call → Type 0
 HeldExactly x cs = HoldsWhatCame x (allThings (fresh x) cs) (run (fresh x) cs .station)
 
--- "A file is complete exactly when it was opened and all its packets then came": they are N
+-- "it was opened and all its packets then came": they are N
+abbrev pub AllCame : Start → List Call → ℕ → Type 0
+AllCame x cs k = (y : Slot) × (m : CameInRun x cs k y) × (length (packetsOf m) ≡ needOf y)
+
+-- "A file is complete exactly when" they came
 abbrev pub CompleteExactly : Start → List Call → Type 0
 CompleteExactly x cs =
-    (k : ℕ) → k < 32
-    → (complete (slotAt (run (fresh x) cs .station) k) ≡ true)
-    ↔ ((y : Slot) × (m : CameInRun x cs k y) × (length (packetsOf m) ≡ needOf y))
+    (k : ℕ) → k < 32 → (complete (slotAt (run (fresh x) cs .station) k) ≡ true) ↔ AllCame x cs k
+
+-- and that is what is reported where the file is let go: "reports whether it was complete" (02, 3/14)
+abbrev pub ReportsExactly : Start → List Call → Type 0
+ReportsExactly x cs = (k : ℕ) → k < 32 → (reported (run (fresh x) cs) (let-go k) ≡ true) ↔ AllCame x cs k
 
 -- a packet that goes on with the file in slot x
 pub record GoesOnWith (x : Slot) (p : List ℕ) : Type 0 where
@@ -123,6 +129,18 @@ pub record FileRight (w : World) (k : ℕ) (page : Page) : Type 0 where
   pub octet :
       (n : ℕ) → n < octetsOfBits (slotAt (w .station) k .bits)
       → getD (fileOctets (w .station) (w .store) k) n 0 ≡ getD (getD page ((10 + n) / 8190) []) ((10 + n) % 8190) 0
+
+-- the reads that are refused, of each slot: "11: slot 32 or more, or not held", "12: read .. of an incomplete file", "14: read passes the file's
+-- end"
+pub record ReadRefused (w : World) (k offset : ℕ) (buffer : List ℕ) : Type 0 where
+  pub by-11 : ((k < 32) × (held (slotAt (w .station) k) ≡ true) → ⊥) → answer w (read k offset buffer) ≡ 11
+  pub by-12 : k < 32 → held (slotAt (w .station) k) ≡ true → complete (slotAt (w .station) k) ≡ false → answer w (read k offset buffer) ≡ 12
+  pub by-14 :
+      k < 32 → complete (slotAt (w .station) k) ≡ true → octetsOfBits (slotAt (w .station) k .bits) < offset + length buffer
+      → answer w (read k offset buffer) ≡ 14
+
+abbrev pub ReadsRefused : World → Type 0
+ReadsRefused w = (k offset : ℕ) (buffer : List ℕ) → ReadRefused w k offset buffer
 
 -- of every complete file of a run, with its page of the run's ledger
 abbrev pub FilesCarried : Start → List Call → Type 0

@@ -12,7 +12,7 @@ use Rattle.events.specs.Event.{Event}
 use Rattle.station.specs.Frame.{channelAt}
 use Rattle.history.specs.Run as runs
 use Rattle.history.specs.Run.{World, Call, answer, run, Start, fresh}
-use Rattle.history.specs.Run.Call.{frame, read, release, drop as letting}
+use Rattle.history.specs.Run.Call.{frame, read, let-go}
 use Rattle.history.specs.Things.{allThings}
 use Rattle.history.specs.Sorted.{headerChannel}
 use Rattle.history.specs.Openings.{counterIn, pointerIn, zoneIn, OnDesk, onDesk, leaving, Dropped, Opens, Closes, packetsUnder}
@@ -47,8 +47,7 @@ pub data Heard : List (List ℕ) → List (List ℕ) → OnDesk → Type 0 where
 abbrev pub acceptedIn : World → Call → Channel → List (List ℕ)
 acceptedIn w (frame f list) c = if eqb (answer w (frame f list)) 0 && eqb (headerChannel f .0) (c .0) then f ∷ [] else []
 acceptedIn w (read k offset buffer) c = []
-acceptedIn w (release k) c = []
-acceptedIn w (letting k) c = []
+acceptedIn w (let-go k) c = []
 
 unfoldable pub accepted : World → List Call → Channel → List (List ℕ)
 accepted w [] c = []

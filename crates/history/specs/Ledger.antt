@@ -1,6 +1,6 @@
 -- The ledger: for each slot the data of the packets accepted for its file since it was opened, in order. Nobody keeps it but the theorems.
 -- It is made from the packets that are judged and the events that they give: event 10 that names the slot begins its page with the
--- packet's data, 11 or 12 adds it, 6 empties it, and so does a release or drop of it that is answered by 0. Assumes nothing.
+-- packet's data, 11 or 12 adds it, 6 empties it, and so does letting it go, if that is answered by 0. Assumes nothing.
 use mathlib.Core.Bool.{Bool, false, _&&_, _||_}
 use mathlib.Core.List.{List, [], _∷_, _++_}
 use Prim.Native.Nat.{ℕ}

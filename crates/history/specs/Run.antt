@@ -5,7 +5,7 @@ use Prim.Native.Nat.{ℕ}
 use Rattle.state.specs.declared.Station.{Station}
 use Rattle.station.specs.SetUp.{setUp}
 use Rattle.station.specs.Frame.{FrameOutcome, framed}
-use Rattle.station.specs.Files.{released, dropped, readOut}
+use Rattle.station.specs.Files.{fileLetGo, readOut}
 use Rattle.station.specs.Answers.{SoundWithMemory}
 
 -- the station, and the memory that its caller lends it again and again
@@ -20,9 +20,8 @@ pub data Call : Type 0 where
   frame : List ℕ → List ℕ → Call
   -- the slot, the offset, and the buffer lent
   read : ℕ → ℕ → List ℕ → Call
-  -- the slot
-  release : ℕ → Call
-  drop : ℕ → Call
+  -- the slot whose file is to go
+  let-go : ℕ → Call
 
 -- what a frame call gives: the definition that the call's contract cites
 abbrev pub frameIn : World → List ℕ → List ℕ → FrameOutcome
@@ -32,15 +31,13 @@ frameIn w f list = framed (w .station) (w .desks) (w .store) list f
 unfoldable pub answer : World → Call → ℕ
 answer w (frame f list) = frameIn w f list .answer
 answer w (read k offset buffer) = readOut (w .station) (w .store) k offset buffer .answer
-answer w (release k) = released (w .station) k .answer
-answer w (drop k) = dropped (w .station) k .answer
+answer w (let-go k) = fileLetGo (w .station) k .answer
 
--- what a call leaves behind; a read is lent the store for reading, release and drop nothing
+-- what a call leaves behind; a read is lent the store for reading, and where a file is let go nothing is lent
 unfoldable pub after : World → Call → World
 after w (frame f list) = record { station = frameIn w f list .station; desks = frameIn w f list .desks; store = frameIn w f list .store }
 after w (read k offset buffer) = w
-after w (release k) = record { station = released (w .station) k .station; desks = w .desks; store = w .store }
-after w (drop k) = record { station = dropped (w .station) k .station; desks = w .desks; store = w .store }
+after w (let-go k) = record { station = fileLetGo (w .station) k .station; desks = w .desks; store = w .store }
 
 -- calls, first to last
 unfoldable pub run : World → List Call → World

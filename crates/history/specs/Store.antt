@@ -20,7 +20,7 @@ use Rattle.judge.specs.Contract.{Watched, Whole}
 use Rattle.judge.specs.Judge.{firstSlot, judged}
 use Rattle.judge.specs.Packets.{Starts}
 use Rattle.history.specs.Run.{World, Call, answer, after, run, Start, fresh}
-use Rattle.history.specs.Run.Call.{frame, release, drop}
+use Rattle.history.specs.Run.Call.{frame, let-go}
 use Rattle.history.specs.Things.{Thing, didAll, things, said}
 use Rattle.history.specs.Things.Thing.{packet}
 use Rattle.history.specs.Follow.{ends, follow}
@@ -97,12 +97,11 @@ pub record Keeps (s t : Station) (k : ℕ) : Type 0 where
   pub blocks : blocksOf t k ≡ blocksOf s k
   pub accepted : slotAt s k .accepted ≤ slotAt t k .accepted
 
--- "it leaves its slot only by event 6, .. or by a release or drop of it"
+-- "it leaves its slot only by event 6, .. or by" letting it go: 00 names release and drop, which are one call (02, 3/14)
 pub data Leaves (w : World) (k : ℕ) : Call → Type 0 where
   by-event-6 : {f list : List ℕ} → answer w (frame f list) ≡ 0
       → Among (at 6 (slotAt (w .station) k .application .0) k) (said w (frame f list)) → Leaves w k (frame f list)
-  by-release : answer w (release k) ≡ 0 → Leaves w k (release k)
-  by-drop : answer w (drop k) ≡ 0 → Leaves w k (drop k)
+  by-letting-go : answer w (let-go k) ≡ 0 → Leaves w k (let-go k)
 
 -- over a call a file is followed by its things: it is still there, as followed, and keeps all that it had; or it has come to its end, and leaves
 pub data OverCall (w : World) (k : ℕ) (c : Call) : Type 0 where

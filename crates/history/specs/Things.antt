@@ -22,14 +22,14 @@ use Rattle.zone.specs.Walk.{readingOf, withDesk, deskAfter, walked}
 use Rattle.station.specs.Frame.{channelAt}
 use Rattle.history.specs.Run as run
 use Rattle.history.specs.Run.{World, Call, answer}
-use Rattle.history.specs.Run.Call.{frame, read, release, drop}
+use Rattle.history.specs.Run.Call.{frame, read, let-go}
 
 pub data Thing : Type 0 where
   -- a whole packet of a channel is judged
   packet : Channel → List ℕ → Thing
   -- a frame is read to its end, and its desk set in order: no file is touched
   left : ℕ → Desk → Thing
-  -- the file of a slot is let go by the user, by a release or a drop
+  -- the file of a slot is let go by the user
   gone : ℕ → Thing
 
 -- what comes of a thing
@@ -63,8 +63,7 @@ framedThings w f (Good a) =
 unfoldable pub things : World → Call → List Thing
 things w (frame f list) = if eqb (answer w (frame f list)) 0 then framedThings w f (examinedIn w f) else []
 things w (read k offset buffer) = []
-things w (release k) = if eqb (answer w (release k)) 0 then gone k ∷ [] else []
-things w (drop k) = if eqb (answer w (drop k)) 0 then gone k ∷ [] else []
+things w (let-go k) = if eqb (answer w (let-go k)) 0 then gone k ∷ [] else []
 
 -- of a run
 unfoldable pub allThings : World → List Call → List Thing
@@ -80,5 +79,4 @@ framedEvents w f (Good a) =
 unfoldable pub said : World → Call → List Event
 said w (frame f list) = if eqb (answer w (frame f list)) 0 then framedEvents w f (examinedIn w f) else []
 said w (read k offset buffer) = []
-said w (release k) = []
-said w (drop k) = []
+said w (let-go k) = []

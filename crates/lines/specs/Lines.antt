@@ -1,5 +1,5 @@
 -- Whole lines: of events, of what a trial prints of a call (docs/TRIAL.md), and the last one of a program. Assumes nothing.
-use mathlib.Core.Bool.{not, _&&_}
+use mathlib.Core.Bool.{Bool, not, _&&_}
 use mathlib.Core.List.{List, [], _∷_, _++_}
 use Prim.Native.Nat.{ℕ, zero, suc}
 use lib.Dec.{eqb}
@@ -21,7 +21,7 @@ eventLines (suc n) list = eventLine (getD list 0 0) (getD list 1 0) (getD list 2
 abbrev pub endLine : ℕ → ℕ → List ℕ
 endLine pieces left = 0x45 ∷ 0x4E ∷ 0x44 ∷ [] ++ spaced pieces ++ spaced left ++ newline
 
--- "S answer", "L answer", "D answer": a letter and a number
+-- "S answer": a letter and a number
 abbrev pub answerLine : ℕ → ℕ → List ℕ
 answerLine letter answer = letter ∷ [] ++ spaced answer ++ newline
 
@@ -36,3 +36,11 @@ octetsRead answer octets = if eqb answer 0 && not (eqb (length octets) 0) then 0
 -- "R answer", and the octets
 abbrev pub readLine : ℕ → List ℕ → List ℕ
 readLine answer octets = 0x52 ∷ [] ++ spaced answer ++ octetsRead answer octets ++ newline
+
+-- "after 0 a space and 1 if the file was complete, else 0"
+abbrev pub report : ℕ → Bool → List ℕ
+report answer complete = if eqb answer 0 then 0x20 ∷ (if complete then 0x31 else 0x30) ∷ [] else []
+
+-- "L answer", and whether the file was complete
+abbrev pub letGoLine : ℕ → Bool → List ℕ
+letGoLine answer complete = 0x4C ∷ [] ++ spaced answer ++ report answer complete ++ newline

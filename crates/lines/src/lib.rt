@@ -7,7 +7,7 @@ ghost use Prim.Native.Nat.{_+_, _*_, _≤_};
 ghost use mathlib.Core.Path.{_≡_};
 ghost use lib.ListN.{length, getD};
 ghost use Rattle.text.specs.Pieces.{Written};
-ghost use Rattle.lines.specs.Lines.{endLine, eventLine, eventLines, answerLine, frameLines, readLine};
+ghost use Rattle.lines.specs.Lines.{endLine, eventLine, eventLines, answerLine, frameLines, readLine, report, letGoLine};
 
 fn wide(x: u16) -> u64
     ensures { λ r. ⌜ r ≡ x ⌝ }
@@ -88,5 +88,29 @@ pub fn read_line(answer: u8, read: &[u8], out: &mut [u8], at: usize) -> usize
     }
     let space = text::word(b" ", out, last);
     let end = text::hex_octets(read, out, space);
+    text::line_end(out, end)
+}
+
+// Whether a file that was let go was complete, after 0.
+fn report(answer: u8, complete: bool, out: &mut [u8], at: usize) -> usize
+    requires { ⌜ at + 2 ≤ length (now out) ⌝ }
+    ensures { λ r. ⌜ (r ≤ at + 2) × Written (now (out .entry)) at (report answer complete) (now (out .exit)) r ⌝ }
+{
+    if answer != 0 {
+        return at;
+    }
+    if complete {
+        return text::word(b" 1", out, at);
+    }
+    text::word(b" 0", out, at)
+}
+
+// What letting a file go says: its answer, and the report.
+pub fn let_go_line(answer: u8, complete: bool, out: &mut [u8], at: usize) -> usize
+    requires { ⌜ at + 25 ≤ length (now out) ⌝ }
+    ensures { λ r. ⌜ (r ≤ at + 25) × Written (now (out .entry)) at (letGoLine answer complete) (now (out .exit)) r ⌝ }
+{
+    let last = text::with_number(b"L", answer as u64, out, at);
+    let end = report(answer, complete, out, last);
     text::line_end(out, end)
 }

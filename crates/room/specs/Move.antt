@@ -20,6 +20,6 @@ withFile s owner k x = stationOf (headOf s) owner (set (s .slots) k x)
 unfoldable pub opened : Station → ℕ → Slot → Station
 opened s k x = withFile s (given (suc k) (take (needOf x) (freeBlocks s)) (s .owner)) k x
 
--- "An abandoned, dropped or released file frees its slot and blocks"
+-- "An abandoned, dropped or released file frees its slot and blocks": what 01 calls dropped or released is let go (02, 3/14)
 unfoldable pub letGo : Station → ℕ → Station
 letGo s k = withFile s (given 0 (blocksOf s k) (s .owner)) k noFile

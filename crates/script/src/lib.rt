@@ -44,9 +44,6 @@ fn alone(letter: u8) -> bool
     if letter == b'L' {
         return true;
     }
-    if letter == b'D' {
-        return true;
-    }
     if letter == b'P' {
         return true;
     }

@@ -1,13 +1,13 @@
 -- What each call gives back, read off the definitions once: the first number of its list that applies, and then nothing changes; or 0, and
 -- then what was to be done is done. Assumes nothing.
 use mathlib.Core.Path.{_≡_, refl, _∙_}
-use mathlib.Core.Bool.{Bool, true, false, not, _&&_, _||_, and-false, false≢true}
+use mathlib.Core.Bool.{Bool, true, false, not, _&&_, _||_, and-false}
 use mathlib.Core.Logic.{_↔_}
 use mathlib.Core.List.{List, [], _∷_, map}
 use Prim.Native.Nat.{ℕ, suc, _*_, _/_, _≤_, _<_}
 use native.Mathlib.Decide.{ℕ-discrete}
 use native.Mathlib.Omega.{arith}
-use borrow.Author.Tests.{not-true, not-false, ltb-true, lt-ltb, le-leb, lt-leb, eqb-true}
+use borrow.Author.Tests.{not-false, ltb-true, lt-ltb, le-leb, lt-leb, eqb-true}
 use lib.Dec.{ltb, leb, eqb}
 use lib.ListN.{length, take, replicate, length-replicate}
 use Rattle.octets.specs.Choice.{if_then_else_}
@@ -28,24 +28,22 @@ use Rattle.frame.specs.Refusals.{pointed, watchedBy, examinedHeader, examined}
 use Rattle.frame.proofs.Fields.{bounded}
 use Rattle.frame.proofs.Pointers.{Means, means}
 use Rattle.transport.specs.Length.{octetsOfBits}
-use Rattle.state.specs.declared.Slot.{Slot}
 use Rattle.state.specs.declared.Station.{Station}
-use Rattle.state.specs.Slots.{slotAt, held, needOf, complete, incomplete, number, allZeroState}
-use Rattle.state.specs.Sound.{Sized, Sound, DesksSound}
+use Rattle.state.specs.Slots.{slotAt, held, complete, number, allZeroState}
 use Rattle.state.specs.Decision.{among, goodChannels, isSound, areDesksSound}
 use Rattle.octets.proofs.Tests.{and-left, and-right}
 use Rattle.room.specs.Move.{letGo}
 use Rattle.room.specs.File.{fileOctets}
 use Rattle.room.proofs.Keeps.{refiled-sized, refiled-desks, letGo-refiles, letGo-sound}
 use Rattle.station.specs.SetUp.{SetUpOutcome, setUpGives, desksFit, wholeBlocks, freshStation, setUp}
-use Rattle.station.specs.Files.{answered, isHeld, asked, letGoAs, released, dropped, ReadOutcome, readGives, storeFits, within, readAs, readOut}
-use Rattle.station.specs.declared.Answered.{Answered}
+use Rattle.station.specs.Files.{isHeld, asked, freed, kept, letGoAs, fileLetGo, ReadOutcome, readGives, storeFits, within, readAs, readOut}
+use Rattle.station.specs.declared.LetGo.{LetGo}
 use Rattle.station.specs.declared.Asked.{Asked}
 use Rattle.station.specs.declared.Asked.the-variants as asks
 use Rattle.station.specs.declared.Asked.the-variants.{Complete, Incomplete}
 use Rattle.station.specs.Frame.{FrameOutcome, frameGives, admitted, taken, examinedFrame, framed}
 use Rattle.octets.specs.Reasons.{Reason, decided, applies}
-use Rattle.station.specs.Answers.{SoundWithMemory, setUpSays, slotSays, releaseSays, dropSays, readSays, frameHeaderSays, frameSays, seat, acceptedAs, walkedAs}
+use Rattle.station.specs.Answers.{SoundWithMemory, setUpSays, slotSays, letGoSays, readSays, frameHeaderSays, frameSays, seat, acceptedAs, walkedAs}
 use Rattle.octets.specs.Reasons.Reason.{_when_}
 use Rattle.station.proofs.Asking.{complete-held}
 use Rattle.octets.proofs.Reasons.{None}
@@ -69,13 +67,13 @@ if-not true x y = refl
 if-not false x y = refl
 
 module _ (s : Station) (k : ℕ) where
-  pub release-is : released s k ≡ decided (releaseSays s k) (answered 0 (letGo s k)) (λ (n : ℕ). answered n s)
-  unfolding released letGoAs
-  release-is = asked-is (letGoAs s 0 12) s k ∙ rw (if-not (complete (slotAt s k)))
-
-  pub drop-is : dropped s k ≡ decided (dropSays s k) (answered 0 (letGo s k)) (λ (n : ℕ). answered n s)
-  unfolding dropped letGoAs
-  drop-is = asked-is (letGoAs s 13 0) s k
+  pub letGo-is : fileLetGo s k ≡ decided (letGoSays s k) (freed s k (complete (slotAt s k))) (kept s)
+  unfolding fileLetGo letGoAs
+  letGo-is = asked-is (letGoAs s) s k ∙ rw (either (complete (slotAt s k)))
+    where
+      either : (b : Bool) → (if b then freed s k true else freed s k false) ≡ freed s k b
+      either true = refl
+      either false = refl
 
   pub read-is : (store : List ℕ) (offset : ℕ) (buffer : List ℕ) → readOut s store k offset buffer
       ≡ decided (readSays s store k offset (length buffer)) (readGives 0 (part offset (length buffer) (fileOctets s store k)))
@@ -133,19 +131,11 @@ module _ (s : Station) (desks store list f : List ℕ) where
       let g = examinedFrame s desks store list f in
       simp (if-map g, header-is g (frameOf (derandomised f)) (bounded (derandomised f) .pointer) s)
 
--- release and drop: the file of slot k goes, or nothing changes
-abbrev pub Goes : Station → ℕ → List Reason → Answered → Type 0
-Goes s k rs = Outcome (λ (r : Answered). r .answer) rs (answered 0 (letGo s k)) (λ (n : ℕ). answered n s)
-
 -- what the numbers of each call say
 module _ (s : Station) (k : ℕ) where
-  pub release-outcome : Goes s k (releaseSays s k) (released s k)
+  pub letGo-outcome : Outcome (λ (r : LetGo). r .answer) (letGoSays s k) (freed s k (complete (slotAt s k))) (kept s) (fileLetGo s k)
   unfolding among
-  release-outcome = rw (release-is s k) (outcome _ (releaseSays s k) _ _ refl (λ n. refl) refl)
-
-  pub drop-outcome : Goes s k (dropSays s k) (dropped s k)
-  unfolding among
-  drop-outcome = rw (drop-is s k) (outcome _ (dropSays s k) _ _ refl (λ n. refl) refl)
+  letGo-outcome = rw (letGo-is s k) (outcome _ (letGoSays s k) _ _ refl (λ n. refl) refl)
 
   pub read-outcome : (store : List ℕ) (offset : ℕ) (buffer : List ℕ)
       → Outcome (λ (r : ReadOutcome). r .answer) (readSays s store k offset (length buffer))
@@ -169,11 +159,8 @@ frame-outcome s desks store list f =
 
 -- the numbers that each call can give
 module _ (s : Station) (k : ℕ) where
-  pub release-answers : among (released s k .answer) (0 ∷ 2 ∷ 11 ∷ 12 ∷ []) ≡ true
-  release-answers = release-outcome s k .one-of
-
-  pub drop-answers : among (dropped s k .answer) (0 ∷ 2 ∷ 11 ∷ 13 ∷ []) ≡ true
-  drop-answers = drop-outcome s k .one-of
+  pub letGo-answers : among (fileLetGo s k .answer) (0 ∷ 2 ∷ 11 ∷ []) ≡ true
+  letGo-answers = letGo-outcome s k .one-of
 
   pub read-answers : (store : List ℕ) (offset : ℕ) (buffer : List ℕ)
       → among (readOut s store k offset buffer .answer) (0 ∷ 1 ∷ 2 ∷ 11 ∷ 12 ∷ 14 ∷ []) ≡ true
@@ -188,11 +175,8 @@ frame-answers s desks store list f = frame-outcome s desks store list f .one-of
 
 -- "The lowest number that applies is given, except that at set-up 10 comes before 1"
 module _ (s : Station) (k : ℕ) where
-  pub release-lowest : (n : ℕ) → applies (releaseSays s k) n ≡ true → (1 ≤ released s k .answer) × (released s k .answer ≤ n)
-  release-lowest = release-outcome s k .lowest refl
-
-  pub drop-lowest : (n : ℕ) → applies (dropSays s k) n ≡ true → (1 ≤ dropped s k .answer) × (dropped s k .answer ≤ n)
-  drop-lowest = drop-outcome s k .lowest refl
+  pub letGo-lowest : (n : ℕ) → applies (letGoSays s k) n ≡ true → (1 ≤ fileLetGo s k .answer) × (fileLetGo s k .answer ≤ n)
+  letGo-lowest = letGo-outcome s k .lowest refl
 
   pub read-lowest : (store : List ℕ) (offset : ℕ) (buffer : List ℕ) (n : ℕ) → applies (readSays s store k offset (length buffer)) n ≡ true
       → (1 ≤ readOut s store k offset buffer .answer) × (readOut s store k offset buffer .answer ≤ n)
@@ -222,31 +206,15 @@ asked-exactly s k rs = (to, back)
     back : (isSound s ≡ true) × (k < 32) × (held (slotAt s k) ≡ true) × None rs → None (slotSays s k rs)
     back (sound, low, here, g) = (rw sound, (rw (lt-ltb k 32 low, here), g))
 
-incomplete-exactly : (x : Slot) → (incomplete x ≡ true) ↔ ((held x ≡ true) × (complete x ≡ false))
-unfolding complete incomplete
-incomplete-exactly x = go (held x) (eqb (x .accepted) (needOf x))
-  where
-    go : (a b : Bool) → ((a && not b) ≡ true) ↔ ((a ≡ true) × ((a && b) ≡ false))
-    go true b = (λ e. (refl, not-true b e), λ h. rw (h .1))
-    go false b = (λ e. absurd (false≢true e), λ h. absurd (false≢true (h .0)))
-
 -- what 0 means
 module _ (s : Station) (k : ℕ) where
-  pub release-zero : (released s k .answer ≡ 0) ↔ ((isSound s ≡ true) × (k < 32) × (complete (slotAt s k) ≡ true))
-  release-zero =
-      let o = release-outcome s k .zero in
-      let a = asked-exactly s k ((12 when not (complete (slotAt s k))) ∷ []) in (
-        λ e. let (sound, low, here, g) = a .0 (o .0 e) in (sound, low, not-false (complete (slotAt s k)) (g .0)),
-        λ (sound, low, whole). o .1 (a .1 (sound, low, complete-held (slotAt s k) whole, (rw whole, tt))),
-      )
-
-  pub drop-zero : (dropped s k .answer ≡ 0) ↔ ((isSound s ≡ true) × (k < 32) × (incomplete (slotAt s k) ≡ true))
-  drop-zero =
-      let o = drop-outcome s k .zero in
-      let a = asked-exactly s k ((13 when complete (slotAt s k)) ∷ []) in
-      let part = incomplete-exactly (slotAt s k) in (
-        λ e. let (sound, low, here, g) = a .0 (o .0 e) in (sound, low, part .1 (here, g .0)),
-        λ (sound, low, going). o .1 (a .1 (sound, low, part .0 going .0, (part .0 going .1, tt))),
+  -- "frees any held file"
+  pub letGo-zero : (fileLetGo s k .answer ≡ 0) ↔ ((isSound s ≡ true) × (k < 32) × (held (slotAt s k) ≡ true))
+  letGo-zero =
+      let o = letGo-outcome s k .zero in
+      let a = asked-exactly s k [] in (
+        λ e. let (sound, low, here, g) = a .0 (o .0 e) in (sound, low, here),
+        λ (sound, low, here). o .1 (a .1 (sound, low, here, tt)),
       )
 
   pub read-zero : (store : List ℕ) (offset : ℕ) (buffer : List ℕ) → (readOut s store k offset buffer .answer ≡ 0)
@@ -280,11 +248,8 @@ setUp-zero craft channels desks store =
 
 -- "no call is answered by 2", where the state is sound
 module _ (s : Station) (k : ℕ) (sound : isSound s ≡ true) where
-  pub release-never-2 : released s k .answer ≡ 2 → ⊥
-  release-never-2 = never (release-outcome s k) 2 (omega arith) (rw sound)
-
-  pub drop-never-2 : dropped s k .answer ≡ 2 → ⊥
-  drop-never-2 = never (drop-outcome s k) 2 (omega arith) (rw sound)
+  pub letGo-never-2 : fileLetGo s k .answer ≡ 2 → ⊥
+  letGo-never-2 = never (letGo-outcome s k) 2 (omega arith) (rw sound)
 
   pub frame-never-2 : (desks store list f : List ℕ) → areDesksSound s desks ≡ true → framed s desks store list f .answer ≡ 2 → ⊥
   frame-never-2 desks store list f d = never (frame-outcome s desks store list f) 2 (omega arith) (rw (sound, d))
@@ -292,37 +257,29 @@ module _ (s : Station) (k : ℕ) (sound : isSound s ≡ true) where
   pub read-never-2 : (store : List ℕ) (offset : ℕ) (buffer : List ℕ) → readOut s store k offset buffer .answer ≡ 2 → ⊥
   read-never-2 store offset buffer = never (read-outcome s k store offset buffer) 2 (omega arith) (rw sound)
 
--- release and drop keep it
-module _ {s : Station} (k : ℕ) {rs : List Reason} {r : Answered} (g : Goes s k (slotSays s k rs) r) where
-  goes-cases : (P : Station → Type 0) → (k < 32 → P (letGo s k)) → P s → P (r .station)
-  goes-cases P gone same =
-      elim (ℕ-discrete (r .answer) 0) [
-        | yes e ↦ rw (g .done e) (gone (asked-exactly s k rs .0 (g .zero .0 e) .1))
-        | no f ↦ rw (g .refused f .0) same
+-- letting a file go keeps it
+module _ (s : Station) (k : ℕ) where
+  letGo-cases : (P : Station → Type 0) → (k < 32 → P (letGo s k)) → P s → P (fileLetGo s k .station)
+  letGo-cases P gone same =
+      let o = letGo-outcome s k in
+      elim (ℕ-discrete (fileLetGo s k .answer) 0) [
+        | yes e ↦ rw (o .done e) (gone (letGo-zero s k .0 e .1))
+        | no f ↦ rw (o .refused f .0) same
       ]
 
-  pub goes-sized : Sized s → Sized (r .station)
-  goes-sized z = goes-cases Sized (λ low. refiled-sized (letGo-refiles s k) z) z
-
-  pub goes-sound : Sized s → Sound s → Sound (r .station)
-  goes-sound z h = goes-cases Sound (λ low. letGo-sound z h low) h
-
-  pub goes-desks : (desks : List ℕ) → DesksSound s desks → DesksSound (r .station) desks
-  goes-desks desks d = goes-cases (λ (t : Station). DesksSound t desks) (λ low. refiled-desks (letGo-refiles s k) desks d) d
-
-  goes-fits : (r .station .channels ≡ s .channels) × (r .station .blocks ≡ s .blocks)
+  pub letGo-ready : (desks store : List ℕ) → SoundWithMemory s desks store → SoundWithMemory (fileLetGo s k .station) desks store
   unfolding letGo
-  goes-fits = goes-cases (λ (t : Station). (t .channels ≡ s .channels) × (t .blocks ≡ s .blocks)) (λ low. (refl, refl)) (refl, refl)
-
-  pub goes-ready : (desks store : List ℕ) → SoundWithMemory s desks store → SoundWithMemory (r .station) desks store
-  goes-ready desks store h =
-      record {
-        sized = goes-sized (h .sized);
-        sound = goes-sound (h .sized) (h .sound);
-        desks = goes-desks desks (h .desks);
-        desked = rw (goes-fits .0) (h .desked);
-        stored = rw (goes-fits .1) (h .stored);
-      }
+  letGo-ready desks store h = letGo-cases (λ (t : Station). SoundWithMemory t desks store) gone h
+    where
+      gone : k < 32 → SoundWithMemory (letGo s k) desks store
+      gone low =
+          record {
+            sized = refiled-sized (letGo-refiles s k) (h .sized);
+            sound = letGo-sound (h .sized) (h .sound) low;
+            desks = refiled-desks (letGo-refiles s k) desks (h .desks);
+            desked = h .desked;
+            stored = h .stored;
+          }
 
 module _ (craft : ℕ) (channels desks store : List ℕ) where
   fresh-ready : goodChannels channels ≡ true → desksFit (length channels) desks ≡ true → wholeBlocks store ≡ true

@@ -33,11 +33,9 @@ setUpSays channels desks store =
 abbrev pub slotSays : Station → ℕ → List Reason → List Reason
 slotSays s k rs = (2 when not (isSound s)) ∷ (11 when not (isHeld s k)) ∷ rs
 
-abbrev pub releaseSays : Station → ℕ → List Reason
-releaseSays s k = slotSays s k ((12 when not (complete (slotAt s k))) ∷ [])
-
-abbrev pub dropSays : Station → ℕ → List Reason
-dropSays s k = slotSays s k ((13 when complete (slotAt s k)) ∷ [])
+-- letting a file go: it has no reasons of its own (02, 3/14)
+abbrev pub letGoSays : Station → ℕ → List Reason
+letGoSays s k = slotSays s k []
 
 -- a read of n octets from an offset on
 abbrev pub readSays : Station → List ℕ → ℕ → ℕ → ℕ → List Reason

@@ -1,5 +1,5 @@
--- Read, release and drop. Assumes nothing.
-use mathlib.Core.Bool.{Bool, not, _&&_}
+-- A file read, and let go. Assumes nothing.
+use mathlib.Core.Bool.{Bool, true, false, not, _&&_}
 use mathlib.Core.List.{List}
 use Prim.Native.Nat.{ℕ, _-_, _*_}
 use lib.Dec.{leb, ltb, eqb}
@@ -13,6 +13,7 @@ use Rattle.state.specs.Decision.{isSound}
 use Rattle.room.specs.Move.{letGo}
 use Rattle.room.specs.File.{fileOctets}
 use Rattle.station.specs.declared.Answered.{Answered}
+use Rattle.station.specs.declared.LetGo.{LetGo}
 use Rattle.station.specs.declared.Asked.{Asked}
 use Rattle.station.specs.declared.Asked.the-variants.{Refused, Complete, Incomplete}
 
@@ -31,23 +32,22 @@ asked s k =
     else if complete (slotAt s k) then Complete k
     else Incomplete k
 
--- what an answer does to the file of slot k: 0 lets it go, and "Every number but 0 .. changes nothing"
-abbrev pub goneBy : Station → ℕ → ℕ → Answered
-goneBy s k n = answered n (if eqb n 0 then letGo s k else s)
+-- the file of slot k, complete or not, let go: its slot and blocks are free
+abbrev pub freed : Station → ℕ → Bool → LetGo
+freed s k whole = record { answer = 0; complete = whole; station = letGo s k }
 
--- a call that lets a file go, by its answer for a complete file and its answer for an incomplete one
-unfoldable pub letGoAs : Station → ℕ → ℕ → Asked → Answered
-letGoAs s whole part (Refused n) = answered n s
-letGoAs s whole part (Complete k) = goneBy s k whole
-letGoAs s whole part (Incomplete k) = goneBy s k part
+-- "Every number but 0 carries no other result and changes nothing": what a refused call reports is always false
+abbrev pub kept : Station → ℕ → LetGo
+kept s n = record { answer = n; complete = false; station = s }
 
--- "12: .. release of an incomplete file"
-unfoldable pub released : Station → ℕ → Answered
-released s k = letGoAs s 0 12 (asked s k)
+-- "one operation that frees any held file and reports whether it was complete" (02, 3/14)
+unfoldable pub letGoAs : Station → Asked → LetGo
+letGoAs s (Refused n) = kept s n
+letGoAs s (Complete k) = freed s k true
+letGoAs s (Incomplete k) = freed s k false
 
--- "13: drop of a complete one"
-unfoldable pub dropped : Station → ℕ → Answered
-dropped s k = letGoAs s 13 0 (asked s k)
+unfoldable pub fileLetGo : Station → ℕ → LetGo
+fileLetGo s k = letGoAs s (asked s k)
 
 -- everything that comes out of a read; state and store stay, for they are taken by value and lent for reading
 pub record ReadOutcome : Type 0 where
@@ -65,8 +65,8 @@ storeFits blocks store = leb 1 blocks && leb blocks 4096 && eqb (length store) (
 abbrev pub within : ℕ → ℕ → ℕ → Bool
 within size offset n = leb offset size && leb n (size - offset)
 
--- "12: read .. of an incomplete file"; "14: read passes the file's end"; "A read copies file octets from a given offset .. to fill a lent
--- buffer"
+-- "12: read .. of an incomplete file" ("12 stays for reads": 02, 3/14); "14: read passes the file's end"; "A read copies file octets from a
+-- given offset .. to fill a lent buffer"
 unfoldable pub readAs : Station → List ℕ → ℕ → List ℕ → Asked → ReadOutcome
 readAs s store offset buffer (Refused n) = readGives n buffer
 readAs s store offset buffer (Incomplete k) = readGives 12 buffer

@@ -1,4 +1,4 @@
--- States that no run reaches, and slots that no station has: what release, drop and read say of them. Assumes nothing.
+-- States that no run reaches, and slots that no station has: what a read and letting a file go say of them. Assumes nothing.
 use mathlib.Core.Path.{_≡_}
 use mathlib.Core.Bool.{true}
 use mathlib.Core.List.{List, [], _∷_, _++_, map}
@@ -8,12 +8,11 @@ use Rattle.state.specs.declared.Desk.{Desk}
 use Rattle.state.specs.declared.Station.{Station}
 use Rattle.state.specs.Slots.{noFile, emptyDesk, allZeroState}
 use Rattle.station.specs.SetUp.{channelOf, freshStation}
-use Rattle.station.specs.Files.{answered, released, dropped, readGives, readOut}
+use Rattle.station.specs.Files.{kept, fileLetGo, readGives, readOut}
 
-infix 70 release_from_gives_ drop_from_gives_ any-read-from_gives_
+infix 70 let-go_from_gives_ any-read-from_gives_
 pub data Case : Type 0 where
-  release_from_gives_ : ℕ → Station → ℕ → Case
-  drop_from_gives_ : ℕ → Station → ℕ → Case
+  let-go_from_gives_ : ℕ → Station → ℕ → Case
   any-read-from_gives_ : Station → ℕ → Case
 
 -- a fresh station with four channels and so many blocks
@@ -47,33 +46,30 @@ unfoldable pub cases : List Case
 cases =
     -- "a refused set-up's state is all zero, which isn't sound"; no store has its 0 blocks and 1 to 4,096
     (any-read-from allZeroState gives 1)
-    ∷ (release 0 from allZeroState gives 2)
-    ∷ (drop 0 from allZeroState gives 2)
+    ∷ (let-go 0 from allZeroState gives 2)
     -- "1 to 4,096 blocks"
     ∷ (any-read-from set-up 4097 gives 1)
-    ∷ (release 0 from set-up 4097 gives 2)
+    ∷ (let-go 0 from set-up 4097 gives 2)
     -- "1 to 8 distinct channels"
-    ∷ (release 0 from station 0 noDesk noOwner gives 2)
-    ∷ (release 0 from station 8 noDesk noOwner gives 11)
-    ∷ (release 0 from station 9 noDesk noOwner gives 2)
+    ∷ (let-go 0 from station 0 noDesk noOwner gives 2)
+    ∷ (let-go 0 from station 8 noDesk noOwner gives 11)
+    ∷ (let-go 0 from station 9 noDesk noOwner gives 2)
     -- "each desk holds 0 to 8,197 octets", of the channels that are watched
-    ∷ (drop 0 from station 4 (holding 8197 ∷ replicate 7 emptyDesk) noOwner gives 11)
-    ∷ (drop 0 from station 4 (holding 8198 ∷ replicate 7 emptyDesk) noOwner gives 2)
-    ∷ (drop 0 from station 4 (replicate 4 emptyDesk ++ holding 8198 ∷ replicate 3 emptyDesk) noOwner gives 11)
+    ∷ (let-go 0 from station 4 (holding 8197 ∷ replicate 7 emptyDesk) noOwner gives 11)
+    ∷ (let-go 0 from station 4 (holding 8198 ∷ replicate 7 emptyDesk) noOwner gives 2)
+    ∷ (let-go 0 from station 4 (replicate 4 emptyDesk ++ holding 8198 ∷ replicate 3 emptyDesk) noOwner gives 11)
     -- "each block is free or stands at one place of one held slot"; past the store's blocks there is none to judge
-    ∷ (release 0 from station 4 noDesk (1 ∷ replicate 4095 0) gives 2)
-    ∷ (release 0 from station 4 noDesk (33 ∷ replicate 4095 0) gives 2)
-    ∷ (release 0 from station 4 noDesk (replicate 7 0 ++ 255 ∷ replicate 4088 0) gives 11)
+    ∷ (let-go 0 from station 4 noDesk (1 ∷ replicate 4095 0) gives 2)
+    ∷ (let-go 0 from station 4 noDesk (33 ∷ replicate 4095 0) gives 2)
+    ∷ (let-go 0 from station 4 noDesk (replicate 7 0 ++ 255 ∷ replicate 4088 0) gives 11)
     -- "slot 32 or more"
-    ∷ (release 32 from set-up 7 gives 11)
-    ∷ (release 65535 from set-up 7 gives 11)
-    ∷ (drop 32 from set-up 7 gives 11)
+    ∷ (let-go 32 from set-up 7 gives 11)
+    ∷ (let-go 65535 from set-up 7 gives 11)
     ∷ []
 
 -- what each case says: the number, and that nothing changes
 abbrev pub Right : Case → Type 0
-Right (release k from s gives n) = released s k ≡ answered n s
-Right (drop k from s gives n) = dropped s k ≡ answered n s
+Right (let-go k from s gives n) = fileLetGo s k ≡ kept s n
 Right (any-read-from s gives n) =
     (store : List ℕ) (k offset : ℕ) (buffer : List ℕ) → readOut s store k offset buffer ≡ readGives n buffer
 

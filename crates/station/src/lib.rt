@@ -23,6 +23,13 @@ pub struct Answered {
     pub station: Station,
 }
 
+// What comes of letting a file go: a number of the paper, whether the file was complete, and the state.
+pub struct LetGo {
+    pub answer: u8,
+    pub complete: bool,
+    pub station: Station,
+}
+
 // What is known of a slot that a call names.
 pub enum Asked {
     Refused(u8),
@@ -30,7 +37,7 @@ pub enum Asked {
     Incomplete(usize),
 }
 
-pub fn say(answer: u8, station: Station) -> Answered
+fn say(answer: u8, station: Station) -> Answered
     ensures { λ r. ⌜ r ≡ answered answer station ⌝ }
 {
     Answered {

@@ -24,12 +24,12 @@ pub fn run(name: &str, size: usize, out: &mut dyn Write) -> bool {
         "whole" => stream_of(size, whole),
         "trial-files" => trial_of(&files(size)),
         "trial-fill" => trial_of(&stream_of(size, |_| make::fill(7))),
-        "owned" => with_calls(one_file(), size, |script| script.release(32)),
-        "sound" => with_calls(held(4096), size, |script| script.release(32)),
-        "unsound" => with_calls(unsound(), size, |script| script.release(32)),
-        "dropped" => with_calls(held(4096), size, |script| script.drop_file(0)),
-        "sound-64" => with_calls(held(64), size, |script| script.release(32)),
-        "dropped-64" => with_calls(held(64), size, |script| script.drop_file(0)),
+        "owned" => with_calls(one_file(), size, |script| script.let_go(32)),
+        "sound" => with_calls(held(4096), size, |script| script.let_go(32)),
+        "unsound" => with_calls(unsound(), size, |script| script.let_go(32)),
+        "let-go" => with_calls(held(4096), size, |script| script.let_go(0)),
+        "sound-64" => with_calls(held(64), size, |script| script.let_go(32)),
+        "let-go-64" => with_calls(held(64), size, |script| script.let_go(0)),
         "abandoned-64" => with_calls(held(64), size, abandoning),
         "raw-step" => in_step(size),
         "raw-noise" => raw::quiet(&mut Chance::new(LOAD_SEED), size * frame::SIZE),
@@ -151,7 +151,7 @@ fn unsound() -> Script {
     script
 }
 
-/// The script, and a call so often. A release of slot 32 only judges the state; a drop also lets a file go.
+/// The script, and a call so often. Of slot 32 it only judges the state; of slot 0 it also lets a file go.
 fn with_calls(mut script: Script, calls: usize, call: impl Fn(&mut Script)) -> Vec<u8> {
     for _ in 0..calls {
         call(&mut script);

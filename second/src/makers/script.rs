@@ -144,12 +144,8 @@ impl Script {
         self.command(b'R', 0, slot, octets, offset);
     }
 
-    pub fn release(&mut self, slot: u16) {
+    pub fn let_go(&mut self, slot: u16) {
         self.command(b'L', 0, slot, 0, 0);
-    }
-
-    pub fn drop_file(&mut self, slot: u16) {
-        self.command(b'D', 0, slot, 0, 0);
     }
 
     pub fn poke_desks(&mut self, index: usize, octet: u8) {

@@ -23,7 +23,7 @@ pub enum Start {
 /// How often it begins what.
 pub type Taste = &'static [(u64, Start)];
 
-/// Where files are released, so that many may be completed.
+/// Where files are let go, so that many may be completed.
 pub const MANY_FILES: Taste = &[
     (16, Start::Small),
     (16, Start::Medium),
@@ -33,7 +33,7 @@ pub const MANY_FILES: Taste = &[
     (6, Start::BadStart),
 ];
 
-/// Where nothing is ever released, so that whole files would soon fill the store.
+/// Where none is ever let go, so that whole files would soon fill the store.
 pub const LONG_FILES: Taste = &[
     (1, Start::Small),
     (16, Start::Long),

@@ -13,7 +13,8 @@ pub const SLOTS: usize = 32;
 /// Room for 300 events, three numbers each.
 pub const LEAST_EVENT_NUMBERS: usize = 900;
 
-/// The refusals of 01's table, in its order, and that of begin (docs/STREAM.md).
+/// The refusals of 01's table, in its order, but for the one that 02, 3/14, retired, and that of
+/// begin (docs/STREAM.md).
 #[derive(Clone, Copy, Debug, PartialEq, Eq)]
 pub enum Refusal {
     Memory = 1,
@@ -28,7 +29,6 @@ pub enum Refusal {
     SetUp = 10,
     NoHeldSlot = 11,
     Incomplete = 12,
-    Complete = 13,
     PastEnd = 14,
     WrongBits = 15,
 }
@@ -133,6 +133,7 @@ impl State {
     }
 
     /// "An abandoned, dropped or released file frees its slot and blocks; block octets stay."
+    /// Dropped and released are one since 02, 3/14: let go.
     pub fn free(&mut self, slot: usize) {
         for block in self.blocks_of(slot) {
             self.owners[block] = 0;
@@ -257,7 +258,7 @@ fn judge_frame(state: &State, unit: &[u8]) -> Result<(frame::Header, Vec<u8>), R
     Ok((header, derandomised))
 }
 
-/// Refusals 2 and 11, which read, release and drop share: the number of a held slot.
+/// Refusals 2 and 11, which reading a file and letting it go share: the number of a held slot.
 fn held_slot(state: &State, slot: usize) -> Result<usize, Refusal> {
     if !sound::state_is_sound(state) {
         return Err(Refusal::NotSound);
@@ -270,7 +271,8 @@ fn held_slot(state: &State, slot: usize) -> Result<usize, Refusal> {
 
 /// "A read copies file octets from a given offset (the ten transport octets don't count) to
 /// fill a lent buffer; length 0 at the very end is allowed." The file's end has L/8 rounded up
-/// (02, 2/14): the bits that fill up its last octet are read as they came (O56).
+/// (02, 2/14): the bits that fill up its last octet are read as they came (O56). "12 stays for
+/// reads" (02, 3/14).
 pub fn read(
     state: &State,
     store: &[u8],
@@ -306,22 +308,11 @@ fn transport_file(state: &State, store: &[u8], slot: usize) -> Vec<u8> {
         .collect()
 }
 
-/// Release: 12 is "read or release of an incomplete file".
-pub fn release(state: &mut State, slot: usize) -> Result<(), Refusal> {
+/// 02, 3/14: "one operation that frees any held file and reports whether it was complete".
+/// Refused, it "carries no other result and changes nothing" (01).
+pub fn let_go(state: &mut State, slot: usize) -> Result<bool, Refusal> {
     let slot = held_slot(state, slot)?;
-    if state.slots[slot].is_incomplete() {
-        return Err(Refusal::Incomplete);
-    }
+    let was_complete = state.slots[slot].is_complete();
     state.free(slot);
-    Ok(())
-}
-
-/// Drop: 13 is "drop of a complete one".
-pub fn drop_file(state: &mut State, slot: usize) -> Result<(), Refusal> {
-    let slot = held_slot(state, slot)?;
-    if state.slots[slot].is_complete() {
-        return Err(Refusal::Complete);
-    }
-    state.free(slot);
-    Ok(())
+    Ok(was_complete)
 }

@@ -49,7 +49,7 @@ impl Command {
             b'S' => (b <= MOST_CHANNEL_OCTETS).then_some(b),
             b'F' => (b <= MOST_EVENT_NUMBERS && c <= MOST_FRAME_OCTETS).then_some(c),
             b'R' => (c <= MOST_READ_OCTETS).then_some(0),
-            b'M' | b'L' | b'D' | b'P' | b'Q' | b'H' => Some(0),
+            b'M' | b'L' | b'P' | b'Q' | b'H' => Some(0),
             _ => None,
         }
     }
@@ -129,14 +129,7 @@ impl Trial {
             b'S' => self.set_up(command, payload, out),
             b'F' => self.frame(command, payload, out),
             b'R' => self.read(command, out),
-            b'L' => {
-                let answer = station::release(&mut self.state, usize::from(command.b));
-                let _ = writeln!(out, "L {}", station::number(&answer));
-            }
-            b'D' => {
-                let answer = station::drop_file(&mut self.state, usize::from(command.b));
-                let _ = writeln!(out, "D {}", station::number(&answer));
-            }
+            b'L' => self.let_go(command, out),
             b'P' => self.poke_memory(command),
             b'Q' => poke_state(&mut self.state, command),
             _ => self.show(out),
@@ -176,6 +169,15 @@ impl Trial {
         let _ = match answer {
             Ok(()) if !buffer.is_empty() => writeln!(out, "R 0 {}", hexadecimal(&buffer)),
             answer => writeln!(out, "R {}", station::number(&answer)),
+        };
+    }
+
+    /// "`L answer`, and after 0 a space and 1 if the file was complete, else 0"
+    fn let_go(&mut self, command: &Command, out: &mut dyn Write) {
+        let answer = station::let_go(&mut self.state, usize::from(command.b));
+        let _ = match answer {
+            Ok(was_complete) => writeln!(out, "L 0 {}", u8::from(was_complete)),
+            Err(_) => writeln!(out, "L {}", station::number(&answer)),
         };
     }
 

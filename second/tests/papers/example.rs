@@ -74,7 +74,7 @@ fn the_program_counts_refused_frames_and_octets_left_over() {
 }
 
 #[test]
-fn the_program_never_releases() {
+fn the_program_lets_no_file_go() {
     let example = make::example_frame(false);
     let out = received(&example.repeat(8));
     assert!(

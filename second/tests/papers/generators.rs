@@ -42,7 +42,7 @@ fn cases_run_to_their_end_but_for_those_that_end_the_run() {
         }
     }
     assert!(last_line(&tried(&all)).ends_with(" 0"));
-    assert!(all.len() < 420_000);
+    assert!(all.len() < 460_000);
 }
 
 fn made(run: fn(u64, u64, &mut dyn std::io::Write), seed: u64, size: u64) -> Vec<u8> {
@@ -51,43 +51,94 @@ fn made(run: fn(u64, u64, &mut dyn std::io::Write), seed: u64, size: u64) -> Vec
     out
 }
 
-/// A letter and the number behind it, as `F 0` or `E 10`.
+/// A letter and the number behind it, as `F 0` or `E 10`; the whole line where a file is let go.
 fn kinds(out: &str) -> impl Iterator<Item = String> + '_ {
     out.lines().filter_map(|line| {
         let mut words = line.split(' ');
         match (words.next()?, words.next()?) {
-            (letter @ ("S" | "F" | "R" | "L" | "D" | "E"), number) => {
-                Some(format!("{letter} {number}"))
-            }
+            ("L", _) => Some(line.to_string()),
+            (letter @ ("S" | "F" | "R" | "E"), number) => Some(format!("{letter} {number}")),
             _ => None,
         }
     })
 }
 
+/// All answers and events of 01 and 02, 3/14, as `kinds` gives them.
+fn answers_and_events() -> BTreeSet<String> {
+    let numbers = [
+        ("S", vec![0, 1, 10]),
+        ("F", (0..=9).collect()),
+        ("R", vec![0, 1, 2, 11, 12, 14]),
+        ("L", vec![2, 11]),
+        ("E", (1..=13).collect()),
+    ];
+    let lines = |(letter, numbers): (&str, Vec<u16>)| -> Vec<String> {
+        numbers.iter().map(|n| format!("{letter} {n}")).collect()
+    };
+    let reports = ["L 0 0", "L 0 1"].map(String::from);
+    numbers.into_iter().flat_map(lines).chain(reports).collect()
+}
+
 #[test]
-fn random_scripts_meet_every_answer_and_event() {
+fn cases_meet_every_answer_and_event_and_no_other() {
+    let outs = cases::all().into_iter().map(|case| tried(&case.script()));
+    let met: BTreeSet<String> = outs
+        .flat_map(|out| kinds(&out).collect::<Vec<_>>())
+        .collect();
+    assert_eq!(met, answers_and_events());
+}
+
+#[test]
+fn random_scripts_meet_every_answer_and_event_and_no_other() {
     let mut met = BTreeSet::new();
     for seed in 1..=16 {
         let script = made(random::run, seed, 600);
         assert_eq!(script, made(random::run, seed, 600));
         met.extend(kinds(&tried(&script)));
     }
-    let answers = [
-        ("S", vec![0, 1, 10]),
-        ("F", (0..=9).collect()),
-        ("R", vec![0, 1, 2, 11, 12, 14]),
-        ("L", vec![0, 2, 11, 12]),
-        ("D", vec![0, 2, 11, 13]),
-        ("E", (1..=13).collect()),
-    ];
-    for (letter, numbers) in answers {
-        for number in numbers {
-            assert!(
-                met.contains(&format!("{letter} {number}")),
-                "{letter} {number}"
-            );
-        }
+    assert_eq!(met, answers_and_events());
+}
+
+/// How often each line is met where a file is let go, in sound states and in poked ones.
+#[test]
+fn random_scripts_let_files_go_of_every_kind() {
+    let outs = (1..=16).map(|seed| tried(&made(random::run, seed, 600)));
+    let lines: Vec<String> = outs
+        .flat_map(|out| kinds(&out).collect::<Vec<_>>())
+        .collect();
+    for (line, least) in [("L 0 1", 200), ("L 0 0", 20), ("L 2", 50), ("L 11", 100)] {
+        let met = lines.iter().filter(|met| *met == line).count();
+        assert!(met >= least, "{line}: {met}");
     }
+}
+
+/// The letter where a script's run ends, none where it is carried out to its end or a command is
+/// cut short.
+fn letter_of_the_end(script: &[u8]) -> Option<u8> {
+    let out = tried(script);
+    let left: usize = last_line(&out).rsplit(' ').next()?.parse().ok()?;
+    script[script.len() - left..]
+        .first()
+        .copied()
+        .filter(|_| left >= 16)
+}
+
+#[test]
+fn random_scripts_have_unknown_letters_at_their_end_alone() {
+    let mut letters = BTreeSet::new();
+    for seed in 1..=40 {
+        let script = made(random::run, seed, 60);
+        let out = tried(&script);
+        let shown = out
+            .lines()
+            .rev()
+            .skip(1)
+            .find(|line| !line.starts_with(['T', 'K']));
+        assert!(shown.is_some_and(|line| line.starts_with('H')), "{seed}");
+        letters.extend(letter_of_the_end(&script));
+    }
+    assert!(letters.len() >= 3 && letters.contains(&b'D'), "{letters:?}");
+    assert!(letters.iter().all(|letter| !b"MSFRLPQH".contains(letter)));
 }
 
 /// Of some files a quarter to a third have a length that is no multiple of 8, or nearly so many,
@@ -210,8 +261,8 @@ fn a_load_for_trial_has_the_frames_of_the_stream() {
 
 #[test]
 fn a_load_of_files_let_go_lets_them_go() {
-    for name in ["dropped", "dropped-64"] {
-        assert!(tried(&loaded(name, 1)).contains("\nD 0\n"), "{name}");
+    for name in ["let-go", "let-go-64"] {
+        assert!(tried(&loaded(name, 1)).contains("\nL 0 0\n"), "{name}");
     }
     let out = tried(&loaded("abandoned-64", 1));
     assert!(out.contains("\nF 0 32\n"));
@@ -219,7 +270,7 @@ fn a_load_of_files_let_go_lets_them_go() {
 }
 
 #[test]
-fn a_load_of_releases_is_judged_and_changes_nothing() {
+fn a_load_of_refused_calls_is_judged_and_changes_nothing() {
     for (name, answer) in [("sound", "L 11"), ("sound-64", "L 11"), ("unsound", "L 2")] {
         let out = tried(&loaded(name, 3));
         assert_eq!(out.lines().filter(|&line| line == answer).count(), 3);

@@ -3,6 +3,7 @@
 mod example;
 mod generators;
 mod leaves;
+mod let_go;
 mod memory;
 mod records;
 mod refusals;

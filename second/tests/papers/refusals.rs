@@ -45,8 +45,8 @@ fn the_all_zero_state() {
         station::read(&state, &[], 0, 0, &mut []),
         Err(Refusal::Memory)
     );
-    assert_eq!(station::release(&mut state, 0), Err(Refusal::NotSound));
-    assert_eq!(station::drop_file(&mut state, 99), Err(Refusal::NotSound));
+    assert_eq!(station::let_go(&mut state, 0), Err(Refusal::NotSound));
+    assert_eq!(station::let_go(&mut state, 99), Err(Refusal::NotSound));
 }
 
 #[test]
@@ -103,11 +103,7 @@ fn slots_that_are_not_held() {
     let mut station = Station::new(&[0], 2);
     for slot in [0, 31, 32, 255, 65_535] {
         assert_eq!(
-            station::release(&mut station.state, slot),
-            Err(Refusal::NoHeldSlot)
-        );
-        assert_eq!(
-            station::drop_file(&mut station.state, slot),
+            station::let_go(&mut station.state, slot),
             Err(Refusal::NoHeldSlot)
         );
         let read = station::read(&station.state, &station.store, slot, 0, &mut []);

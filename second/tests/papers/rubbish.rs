@@ -94,15 +94,15 @@ fn blocks_are_accounted_for(station: &Station) {
     assert_eq!(taken + station.state.free_blocks().len() as u128, 9);
 }
 
-/// Releases and drops some slots.
+/// Lets some files go, complete ones more often than not.
 fn make_room(chance: &mut Chance, station: &mut Station) {
     for slot in 0..33 {
-        let answer = match chance.below(3) {
-            0 => station::release(&mut station.state, slot),
-            1 => station::drop_file(&mut station.state, slot),
-            _ => Ok(()),
-        };
-        assert_ne!(answer, Err(Refusal::NotSound));
+        let file = station.state.slots.get(slot).cloned().unwrap_or_default();
+        if chance.below(if file.is_complete() { 3 } else { 6 }) == 0 {
+            let answer = station::let_go(&mut station.state, slot);
+            let expected = file.is_held().then_some(file.is_complete());
+            assert_eq!(answer, expected.ok_or(Refusal::NoHeldSlot));
+        }
     }
 }
 

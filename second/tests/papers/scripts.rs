@@ -142,7 +142,7 @@ fn the_example_frame_tried() {
         command(b'R', 0, 0, 1, 0, &[]),
         command(b'R', 0, 0, 0, 1, &[]),
         command(b'R', 0, 0, 1, 1, &[]),
-        command(b'D', 0, 0, 0, 0, &[]),
+        command(b'L', 0, 32, 0, 0, &[]),
         command(b'L', 0, 0, 0, 0, &[]),
         command(b'L', 0, 0, 0, 0, &[]),
     ]);
@@ -153,7 +153,7 @@ fn the_example_frame_tried() {
     );
     let expected = format!(
         "S 0\nF 0 2\nE 10 5 0\nE 12 5 0\nH {desks} {store}\nT 0 2 5 8 0 1 0\nK 0 0 0 0\n\
-         K 1 0 0 0\nK 2 0 1 0\nK 3 0 0 0\nR 0 00\nR 0\nR 14\nD 13\nL 0\nL 11\nEND 10 0\n"
+         K 1 0 0 0\nK 2 0 1 0\nK 3 0 0 0\nR 0 00\nR 0\nR 14\nL 11\nL 0 1\nL 11\nEND 10 0\n"
     );
     assert_eq!(out, expected);
 }
@@ -186,7 +186,7 @@ fn pokes() {
     );
     let expected = format!(
         "S 0\nF 2 0\nF 3 0\nH {} {}\nT 4 2 0 8 0 1 6\nK 0 0 0 0\nK 1 0 0 0\nK 2 0 1 0\n\
-         K 3 0 0 0\nL 0\nL 2\nEND 19 0\n",
+         K 3 0 0 0\nL 0 1\nL 2\nEND 19 0\n",
         crcs.0, crcs.1
     );
     assert_eq!(out, expected);
@@ -199,6 +199,8 @@ fn where_a_run_ends() {
         (vec![], 0),
         (vec![b'H'; 15], 15),
         (command(b'X', 0, 0, 0, 0, &[]), 16),
+        (command(b'D', 0, 0, 0, 0, &[]), 16),
+        (command(b'D', 0, 900, 1024, 0, &[0; 1024]), 1040),
         (command(b'S', 0, 65, 0, 0, &[0; 65]), 81),
         (command(b'S', 0, 4, 0, 0, &[0; 3]), 19),
         (command(b'F', 0, 1201, 0, 0, &[]), 16),
@@ -209,15 +211,8 @@ fn where_a_run_ends() {
         assert_eq!(tried(&[script]), format!("{empty}{left}\n"));
     }
     let nothing = second::model::crc::crc(&[]);
-    let shown = format!("H {nothing} {nothing}\nL 2\nD 2\nR 1\nF 1 0\nS 10\nEND 6 17\n");
-    let letters = [
-        (b'H', 0),
-        (b'L', 0),
-        (b'D', 0),
-        (b'R', 0),
-        (b'F', 900),
-        (b'S', 0),
-    ];
+    let shown = format!("H {nothing} {nothing}\nL 2\nR 1\nF 1 0\nS 10\nEND 5 17\n");
+    let letters = [(b'H', 0), (b'L', 0), (b'R', 0), (b'F', 900), (b'S', 0)];
     let mut script: Vec<Vec<u8>> = letters
         .iter()
         .map(|&(letter, b)| command(letter, 0, b, 0, 0, &[]))

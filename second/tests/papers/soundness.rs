@@ -21,14 +21,16 @@ fn busy() -> Station {
     station
 }
 
+/// The numbers of a read of slot 0, of slot 1 let go, and of a frame, none of which changes the
+/// station.
 fn answers(station: &mut Station) -> (u16, u16, u16) {
     let read = station::read(&station.state, &station.store, 0, 0, &mut []);
-    let drop = station::drop_file(&mut station.state.clone(), 1);
+    let let_go = station::let_go(&mut station.state.clone(), 1);
     let good = frame(62, 0, 0, &[]);
     let frame = station.frame(&good).map(|_| ());
     (
         station::number(&read),
-        station::number(&drop),
+        station::number(&let_go),
         station::number(&frame),
     )
 }
@@ -80,7 +82,9 @@ fn packets_accepted() {
     assert!(broken(|state| state.slots[1].accepted = 65_535));
     let mut station = busy();
     station.state.slots[1].accepted = 2;
-    assert_eq!(answers(&mut station), (0, 13, 8));
+    assert_eq!(answers(&mut station), (0, 0, 8));
+    assert_eq!(station::let_go(&mut station.state, 1), Ok(true));
+    assert_eq!(station::let_go(&mut station.state, 2), Ok(false));
 }
 
 #[test]
@@ -115,11 +119,13 @@ fn lengths_that_are_no_multiple_of_8() {
         assert!(broken(|state| state.slots[0].length = length), "{length}");
         assert!(broken(|state| state.slots[1].length = length), "{length}");
     }
-    let mut station = busy();
-    station.state.slots[1].length = 65_441;
-    station.state.slots[1].accepted = 2;
-    assert_eq!(answers(&mut station), (0, 13, 8));
-    assert_eq!(station::release(&mut station.state, 1), Ok(()));
+    for (accepted, was_complete) in [(1, false), (2, true)] {
+        let mut station = busy();
+        station.state.slots[1].length = 65_441;
+        station.state.slots[1].accepted = accepted;
+        assert_eq!(answers(&mut station), (0, 0, 8));
+        assert_eq!(station::let_go(&mut station.state, 1), Ok(was_complete));
+    }
 }
 
 #[test]

@@ -32,24 +32,17 @@ fn seven_blocks_need_3_gives_9() {
     assert_eq!(station.store, before);
 }
 
+/// "after the held file's release N = 7 opens"
 #[test]
-fn seven_blocks_need_7_opens_after_the_release() {
+fn seven_blocks_need_7_opens_after_the_file_is_let_go() {
     let mut station = with_file_of_5();
-    assert_eq!(
-        station::drop_file(&mut station.state, 0),
-        Err(Refusal::Complete)
-    );
-    assert_eq!(station::release(&mut station.state, 0), Ok(()));
+    assert_eq!(station::let_go(&mut station.state, 0), Ok(true));
     let first = file(1, 11, 7).packets(0)[0].clone();
     assert_eq!(station.packets(1, &[first]), [[10, 11, 0]]);
     assert_eq!(station.state.blocks_of(0), [0, 1, 2, 3, 4, 5, 6]);
+    assert_eq!(station::let_go(&mut station.state, 0), Ok(false));
     assert_eq!(
-        station::release(&mut station.state, 0),
-        Err(Refusal::Incomplete)
-    );
-    assert_eq!(station::drop_file(&mut station.state, 0), Ok(()));
-    assert_eq!(
-        station::drop_file(&mut station.state, 0),
+        station::let_go(&mut station.state, 0),
         Err(Refusal::NoHeldSlot)
     );
 }

@@ -5,7 +5,7 @@ use borrow.Author.Needs.{needs}
 use Rattle.text.proofs.Following.{nothing}
 use Rattle.script.specs.Memory.{memory}
 use Rattle.script.proofs.Limits.{frame-limit, read-limit}
-use Rattle.drive.proofs.Letters.{by-s, by-f, by-r, by-l, by-d, by-h, by-other}
+use Rattle.drive.proofs.Letters.{by-s, by-f, by-r, by-l, by-h, by-other}
 use Rattle.drive.proofs.carry_out.Statement.{statement}
 use Rattle.drive.proofs.carry_out.Tie as tie
 
@@ -63,8 +63,8 @@ returns-3 c =
     let e = c .before .before .read-file .ensures in
     (e .0 (a .desks .now) (a .store .now) ∙ sym (law .0), (e .1 .0, rw (law .1) (e .1 .1 (a .desks .now))))
 
-release-requires : tie.Need-release-requires
-release-requires c κs = search needs
+let-file-go-requires : tie.Need-let-file-go-requires
+let-file-go-requires c κs = search needs
 
 same-length-9 : tie.Need-same-length-9
 same-length-9 c = search needs
@@ -73,24 +73,14 @@ returns-4 : tie.Need-returns-4
 returns-4 c =
     let a = c .before .before .before .before .before .before .before .before .before .before .before .before .args in
     let law = by-l (a .x) (a .payload .now) (memory (a .w) (a .desks .now) (a .store .now)) (c .before .before .before .before .if4 .taken) in
-    let e = c .before .before .release .ensures in
-    (e .0 (a .desks .now) (a .store .now) ∙ sym (law .0), (e .1 .0, rw (law .1) (e .1 .1)))
-
-drop-file-requires : tie.Need-drop-file-requires
-drop-file-requires c κs = search needs
-
-same-length-10 : tie.Need-same-length-10
-same-length-10 c = search needs
-
-returns-5 : tie.Need-returns-5
-returns-5 c =
-    let a = c .before .before .before .before .before .before .before .before .before .before .before .before .before .args in
-    let law = by-d (a .x) (a .payload .now) (memory (a .w) (a .desks .now) (a .store .now)) (c .before .before .before .before .if5 .taken) in
-    let e = c .before .before .drop-file .ensures in
+    let e = c .before .before .let-file-go .ensures in
     (e .0 (a .desks .now) (a .store .now) ∙ sym (law .0), (e .1 .0, rw (law .1) (e .1 .1)))
 
 show-lent-requires : tie.Need-show-lent-requires
 show-lent-requires c κs = search needs
+
+same-length-10 : tie.Need-same-length-10
+same-length-10 c = search needs
 
 same-length-11 : tie.Need-same-length-11
 same-length-11 c = search needs
@@ -98,29 +88,26 @@ same-length-11 c = search needs
 same-length-12 : tie.Need-same-length-12
 same-length-12 c = search needs
 
-same-length-13 : tie.Need-same-length-13
-same-length-13 c = search needs
-
-returns-6 : tie.Need-returns-6
-returns-6 c =
-    let a = c .before .before .before .before .before .before .before .before .before .before .before .before .before .before .before .before .args in
-    let law = by-h (a .x) (a .payload .now) (memory (a .w) (a .desks .now) (a .store .now)) (c .before .before .before .before .before .before .if6 .taken) in
+returns-5 : tie.Need-returns-5
+returns-5 c =
+    let a = c .before .before .before .before .before .before .before .before .before .before .before .before .before .before .before .args in
+    let law = by-h (a .x) (a .payload .now) (memory (a .w) (a .desks .now) (a .store .now)) (c .before .before .before .before .before .before .if5 .taken) in
     let e = c .before .before .show-lent .ensures in
     (e .0 (a .desks .now) (a .store .now) ∙ sym (law .0), (e .1 .0, rw (law .1) (e .1 .1)))
 
 poke-requires : tie.Need-poke-requires
 poke-requires c κs = search needs
 
+same-length-13 : tie.Need-same-length-13
+same-length-13 c = search needs
+
 same-length-14 : tie.Need-same-length-14
 same-length-14 c = search needs
 
-same-length-15 : tie.Need-same-length-15
-same-length-15 c = search needs
-
-returns-7 : tie.Need-returns-7
-returns-7 c =
-    let a = c .before .before .before .before .before .before .before .before .before .before .before .before .before .before .before .before .before .args in
-    let law = by-other (a .x) (a .payload .now) (memory (a .w) (a .desks .now) (a .store .now)) (c .before .before .before .before .before .before .before .before .before .before .before .before .if1 .left) (c .before .before .before .before .before .before .before .before .before .before .before .if2 .left) (c .before .before .before .before .before .before .before .before .before .before .if3 .left) (c .before .before .before .before .before .before .before .before .before .if4 .left) (c .before .before .before .before .before .before .before .before .if5 .left) (c .before .before .before .before .before .before .before .if6 .left) in
+returns-6 : tie.Need-returns-6
+returns-6 c =
+    let a = c .before .before .before .before .before .before .before .before .before .before .before .before .before .before .before .before .args in
+    let law = by-other (a .x) (a .payload .now) (memory (a .w) (a .desks .now) (a .store .now)) (c .before .before .before .before .before .before .before .before .before .before .before .if1 .left) (c .before .before .before .before .before .before .before .before .before .before .if2 .left) (c .before .before .before .before .before .before .before .before .before .if3 .left) (c .before .before .before .before .before .before .before .before .if4 .left) (c .before .before .before .before .before .before .before .if5 .left) in
     let e = c .before .before .before .before .poke .ensures in
     (e .0 ∙ sym (law .0), (omega (arith, e .1), rw (law .1, e .1) (nothing _ 0)))
 
@@ -142,18 +129,15 @@ carry-out-spec =
     same-length-7
     same-length-8
     returns-3
-    release-requires
+    let-file-go-requires
     same-length-9
     returns-4
-    drop-file-requires
-    same-length-10
-    returns-5
     show-lent-requires
+    same-length-10
     same-length-11
     same-length-12
-    same-length-13
-    returns-6
+    returns-5
     poke-requires
+    same-length-13
     same-length-14
-    same-length-15
-    returns-7)
+    returns-6)

@@ -1,5 +1,5 @@
 -- `read_file` meets its contract: each case of what `ask` tells is a clause of the definition. Assumes nothing.
-use mathlib.Core.Path.{_≡_}
+use mathlib.Core.Path.{_≡_, refl}
 use mathlib.Core.Bool.{true, false}
 use mathlib.Core.List.{List}
 use Prim.Native.Nat.{ℕ}
@@ -17,10 +17,10 @@ module _ (s : Station) (store : List ℕ) (k offset : ℕ) (buffer : List ℕ) w
   unfolding readOut
   misfit e = rw e
 
-  as-asked : {a : Asked} {r : ReadOutcome} → storeFits (s .blocks) store ≡ true → a ≡ asked s k → r ≡ readAs s store offset buffer a
+  as-told : {a b : Asked} {r : ReadOutcome} → storeFits (s .blocks) store ≡ true → a ≡ asked s k → a ≡ b → r ≡ readAs s store offset buffer b
       → r ≡ readOut s store k offset buffer
   unfolding readOut
-  as-asked e f g = rw (e, ← f) g
+  as-told fits asks e f = rw (fits, ← asks, e) f
 
 store-fits-requires : tie.Need-store-fits-requires
 store-fits-requires c κs = search needs
@@ -47,17 +47,20 @@ fill-requires c κs =
 
 returns-2 : tie.Need-returns-2
 unfolding readAs
-returns-2 c = as-asked _ _ _ _ _ (search granted) (c .before .before .before .ask .ensures) (rw (c .before .a .given .1))
+returns-2 c = as-told _ _ _ _ _ (search granted) (c .before .before .before .ask .ensures) (c .before .a .given .1) refl
 
 returns-3 : tie.Need-returns-3
 unfolding readAs
-returns-3 c = as-asked _ _ _ _ _ (search granted) (c .before .before .ask .ensures) (rw (c .enum-told .given .1))
+returns-3 c = as-told _ _ _ _ _ (search granted) (c .before .before .ask .ensures) (c .enum-told .given .1) refl
 
 same-length : tie.Need-same-length
 same-length c = search needs
 
 returns-4 : tie.Need-returns-4
-returns-4 c = as-asked _ _ _ _ _ (search granted) (c .before .before .before .before .before .before .before .ask .ensures) (rw (c .before .before .before .before .before .a2 .given .1) (c .before .before .fill .ensures))
+returns-4 c =
+    as-told _ _ _ _ _ (search granted) (c .before .before .before .before .before .before .before .ask .ensures)
+    (c .before .before .before .before .before .a2 .given .1)
+    (c .before .before .fill .ensures)
 
 pub read-file-spec : {M : Type 1} → statement M
 read-file-spec =

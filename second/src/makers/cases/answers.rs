@@ -88,13 +88,8 @@ pub const CASES: &[Row] = &[
     ),
     (
         "answer-12",
-        "12: read and release of an incomplete file; a drop is good",
+        "12: reads of an incomplete file, which can be let go; 02, 3/14: \"12 stays for reads\"",
         incomplete,
-    ),
-    (
-        "answer-13",
-        "13: drop of a complete file; read and release are good",
-        complete_file,
     ),
     (
         "answer-14",
@@ -103,7 +98,7 @@ pub const CASES: &[Row] = &[
     ),
     (
         "answer-order-calls",
-        "the lowest number is given: read 1, 2, 11, 12, 14; release 2, 11, 12; drop 2, 11, 13",
+        "the lowest number is given: read 1, 2, 11, 12, 14; letting a file go 2, 11",
         order_of_calls,
     ),
     (
@@ -217,7 +212,7 @@ fn memory_of_a_read(script: &mut Script) {
     script.read(0, 0, 10);
     script.no_frame();
     script.lend(0, 0);
-    script.release(0);
+    script.let_go(0);
     script.set_up(1, &[]);
     script.read(0, 0, 0);
     script.lend(0, block);
@@ -231,7 +226,7 @@ fn wild_numbers(script: &mut Script) {
         script.lend(lent * DESK_SIZE, 2 * BLOCK_SIZE);
         script.no_frame();
         script.read(0, 0, 0);
-        script.release(0);
+        script.let_go(0);
     }
     for (blocks, lent) in [
         (0, 0),
@@ -248,7 +243,7 @@ fn wild_numbers(script: &mut Script) {
         script.lend(2 * DESK_SIZE, lent * BLOCK_SIZE);
         script.no_frame();
         script.read(0, 0, 0);
-        script.drop_file(0);
+        script.let_go(0);
     }
 }
 
@@ -367,8 +362,8 @@ fn refused_state(script: &mut Script) {
     script.show();
     script.no_frame();
     script.read(0, 0, 0);
-    script.release(0);
-    script.drop_file(0);
+    script.let_go(0);
+    script.let_go(32);
     script.lend(0, 0);
     script.no_frame();
     script.read(0, 0, 0);
@@ -382,8 +377,7 @@ fn no_such_slot(script: &mut Script) {
     script.held(&half(1, 0, 1));
     for slot in [0, 2, 30, 32, 33, 255, 256, 287, 65_535] {
         script.read(slot, 0, 0);
-        script.release(slot);
-        script.drop_file(slot);
+        script.let_go(slot);
     }
     script.show();
 }
@@ -393,22 +387,12 @@ fn incomplete(script: &mut Script) {
     script.held(&half(2, 0, 1));
     script.read(2, 0, 0);
     script.read(2, 1, 0);
-    script.release(2);
+    script.read(2, 8180, 0);
     script.show();
-    script.drop_file(2);
+    script.let_go(2);
     script.show();
-    script.drop_file(2);
-}
-
-fn complete_file(script: &mut Script) {
-    script.station();
-    script.packets(1, &[whole(9, 4)]);
-    script.drop_file(0);
-    script.show();
-    script.read(0, 4, 0);
-    script.release(0);
-    script.show();
-    script.release(0);
+    script.read(2, 0, 0);
+    script.let_go(2);
 }
 
 fn past_the_end(script: &mut Script) {
@@ -453,16 +437,17 @@ fn order_of_calls(script: &mut Script) {
     script.poke(Field::SlotCount, 2, 16_384);
     for slot in [1, 2, 3, 32] {
         script.read(slot, 16_000, 9_000_000);
-        script.release(slot);
-        script.drop_file(slot);
+        script.let_go(slot);
     }
     script.lend(4 * DESK_SIZE, 6 * BLOCK_SIZE);
     script.read(3, 1, 9_000_000);
-    script.release(3);
-    script.drop_file(3);
+    script.let_go(3);
     script.lend(4 * DESK_SIZE, 7 * BLOCK_SIZE);
     script.poke(Field::SlotCount, 2, 0);
     script.read(2, 16_000, 9_000_000);
+    for slot in [3, 32] {
+        script.let_go(slot);
+    }
     script.show();
 }
 

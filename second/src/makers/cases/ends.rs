@@ -1,6 +1,7 @@
 //! The ways a run ends. "The command that ends the run ... prints nothing, is not counted".
 
-use super::Row;
+use super::{half, Row};
+use crate::makers::make;
 use crate::makers::script::Script;
 
 pub const PREFIX: &str = "end-";
@@ -22,6 +23,16 @@ pub const CASES: &[Row] = &[
         cut_set_up,
     ),
     ("end-letter", "a letter that is not in the table", letter),
+    (
+        "end-letter-D",
+        "the letter D, which let an incomplete file go before request 3/14 of 02",
+        letter_d,
+    ),
+    (
+        "end-letter-D-octets",
+        "the letter D, with octets behind it as behind a frame: all of them count",
+        letter_d_octets,
+    ),
     ("end-letter-small", "a small letter", small_letter),
     ("end-long-frame", "a frame of 2,049 octets", long_frame),
     ("end-long-list", "1,201 event numbers", long_list),
@@ -69,6 +80,22 @@ fn cut_set_up(script: &mut Script) {
 fn letter(script: &mut Script) {
     before(script);
     script.command(b'X', 0, 0, 0, 0);
+    behind(script);
+}
+
+fn letter_d(script: &mut Script) {
+    script.station();
+    script.held(&half(1, 0, 5));
+    script.show();
+    script.command(b'D', 0, 1, 0, 0);
+    script.let_go(1);
+    behind(script);
+}
+
+fn letter_d_octets(script: &mut Script) {
+    before(script);
+    script.command(b'D', 0, 900, 1024, 0);
+    script.octets.extend(make::example_frame(false));
     behind(script);
 }
 

@@ -95,7 +95,7 @@ fn blocks_one_by_one(script: &mut Script) {
     script.end_of(0, &sparse_start(5, Flags::First, 0, bits(3, 1)));
     script.packets(0, &[whole(6, 1), whole(7, 1), whole(8, 1)]);
     script.show();
-    script.drop_file(0);
+    script.let_go(0);
     script.poke(Field::Owner, 3, 0);
     script.packets(0, &[whole(8, 1)]);
     script.show();

@@ -253,7 +253,7 @@ fn no_slot(script: &mut Script) {
     script.filled(0, 0, &packet(5, Flags::Whole, 0, &start_data(0, 10)));
     script.filled(1, 0, &[whole(6, 1), whole(5, 2), whole(5, 3)].concat());
     script.show();
-    script.release(7);
+    script.let_go(7);
     script.filled(0, 0, &whole(5, 4));
     script.show();
     script.poke(Field::NumberOfBlocks, 0, 32);
@@ -271,7 +271,7 @@ fn no_room(script: &mut Script) {
     );
     script.show();
     script.filled(0, 0, &[last(9, 1, 1), whole(9, 2)].concat());
-    script.release(0);
+    script.let_go(0);
     script.filled(0, 0, &[whole(5, 1), whole(5, 2), whole(5, 3)].concat());
     script.show();
 }
@@ -300,8 +300,8 @@ fn whole_files(script: &mut Script) {
     for slot in 0..6 {
         script.read(slot, slot_size(slot), 0);
     }
-    script.release(2);
-    script.release(0);
+    script.let_go(2);
+    script.let_go(0);
     script.packets(1, &[whole(7, 500)]);
     script.read(0, 500, 0);
     script.show();
@@ -340,7 +340,7 @@ fn three_packets(script: &mut Script) {
     ] {
         script.read(1, octets, offset);
     }
-    script.release(1);
+    script.let_go(1);
     script.show();
 }
 

@@ -19,12 +19,12 @@ pub const CASES: &[Row] = &[
     ),
     (
         "line-blocks-7-opens",
-        "\"Seven blocks, one held file of 5\": \"after the held file's release N = 7 opens\"",
+        "\"Seven blocks, one held file of 5\": \"after the held file's release N = 7 opens\" (it is let go)",
         seven_opens,
     ),
     (
         "line-blocks-rounded-up",
-        "\"Seven blocks, one held file of 5\", of 262,001 bits: L = 130,960 opens; 130,961 gives 9, then 12 opens; after the release 458,561 gives 9, 458,560 opens",
+        "\"Seven blocks, one held file of 5\", of 262,001 bits: L = 130,960 opens; 130,961 gives 9, then 12 opens; the file let go, 458,561 gives 9, 458,560 opens",
         rounded_up,
     ),
     (
@@ -119,7 +119,7 @@ fn three_gives_9(script: &mut Script) {
 
 fn seven_opens(script: &mut Script) {
     one_held_file_of_5(script, bits(5, 8190));
-    script.release(0);
+    script.let_go(0);
     script.packets(0, &[first(5, 9, bits(7, 8190))]);
     script.show();
 }
@@ -135,7 +135,7 @@ fn rounded_up(script: &mut Script) {
     script.filled(0, 0, &whole.repeat(3));
     script.show();
     one_held_file_of_5(script, bits(4, 8190) + 1);
-    script.release(0);
+    script.let_go(0);
     script.end_of(0, &first(5, bits(7, 8190) + 1));
     script.end_of(0, &first(6, bits(7, 8190)));
     script.show();

@@ -6,6 +6,7 @@ mod desks;
 mod ends;
 mod errors;
 mod events;
+mod let_go;
 mod lines;
 mod pokes;
 mod soundness;
@@ -46,6 +47,7 @@ pub fn all() -> Vec<Case> {
         ends::CASES,
         errors::CASES,
         events::CASES,
+        let_go::CASES,
         lines::CASES,
         pokes::CASES,
         soundness::CASES,
@@ -82,7 +84,7 @@ Scripts for `trial` (docs/TRIAL.md), each small and named for what it shows, and
 `second case NAME` prints, `NAME.expected` what `second trial` makes of it; `tests/make-stored` writes both anew, and this page too. Each case
 lends memory and sets up at its start, so that they can stand behind one another in any order; those that end the run come last. Octets
 stay in the store from case to case, so that `H` and some reads print other numbers there than alone.
-What stands in quotation marks is the rules paper, or request 2/14 of the change requests (02) where that is named.
+What stands in quotation marks is the rules paper, or request 2/14 or 3/14 of the change requests (02) where that is named.
 
 | case | shows |
 |---|---|

@@ -1,6 +1,6 @@
 //! The trial's own commands on the right side of their limits.
 
-use super::{complete, Row};
+use super::{complete, half, Row};
 use crate::makers::script::{Field, Script};
 use crate::model::station::DESK_SIZE;
 use crate::model::transport::BLOCK_SIZE;
@@ -35,15 +35,16 @@ fn ignored(script: &mut Script) {
         0xff,
         0xffff,
         2 * DESK_SIZE as u32,
-        2 * BLOCK_SIZE as u64,
+        4 * BLOCK_SIZE as u64,
     );
     script.command(b'S', 1, 2, u32::MAX, u64::MAX);
     script.octets.extend([0, 1]);
     script.held(&complete(0, 0, 1, 0));
+    script.held(&half(1, 1, 1));
     script.command(b'F', 0xff, 900, 0, u64::MAX);
     script.command(b'H', 0xff, 0xffff, u32::MAX, u64::MAX);
     script.command(b'R', 0xff, 0, 0, 0);
-    script.command(b'D', 0xff, 0, u32::MAX, u64::MAX);
+    script.command(b'L', 0xff, 1, u32::MAX, u64::MAX);
     script.command(b'P', 1, 0xffff, u32::MAX, 5);
     script.command(b'Q', 0, 0xffff, u32::MAX, 0xffff_ff02);
     script.command(b'L', 0xff, 0, u32::MAX, u64::MAX);

@@ -37,11 +37,10 @@ fn busy(script: &mut Script) {
     script.poke(Field::Seen, 1, 1);
 }
 
-/// Calls that change nothing: 11, 11, 11 and 3 of a sound state, 2 of another.
+/// Calls that change nothing: 11, 11 and 3 of a sound state, 2 of another.
 fn judge(script: &mut Script) {
     script.read(31, 0, 0);
-    script.release(31);
-    script.drop_file(31);
+    script.let_go(31);
     script.no_frame();
 }
 
@@ -109,9 +108,11 @@ fn accepted(script: &mut Script) {
         1,
     );
     script.poke(Field::SlotAccepted, 1, 2);
-    script.drop_file(1);
     script.read(1, 0, 8181);
-    script.release(1);
+    script.let_go(1);
+    script.show();
+    script.read(2, 0, 8181);
+    script.let_go(2);
     script.show();
 }
 
@@ -156,12 +157,13 @@ fn lengths(script: &mut Script) {
     script.poke(Field::SlotLength, 1, one + 1);
     script.read(1, 0, 0);
     changed(script, Field::SlotAccepted, 1, &[0, 3], 2);
-    script.drop_file(1);
     script.read(1, 0, 8181);
     script.read(1, 0, 8182);
     script.show();
-    script.poke(Field::SlotAccepted, 1, 1);
-    script.drop_file(1);
+    script.let_go(1);
+    script.poke(Field::SlotLength, 2, one + 1);
+    script.read(2, 0, 0);
+    script.let_go(2);
     script.show();
 }
 
@@ -292,8 +294,8 @@ fn past_the_counts(script: &mut Script) {
     script.poke(Field::Owner, 4095, 2);
     script.poke_desks(2 * DESK_SIZE, 0xee);
     judge(script);
-    script.release(0);
-    script.drop_file(1);
+    script.let_go(0);
+    script.let_go(1);
     script.next_is(3, 1);
     script.packets(3, &[super::whole(8, 1)]);
     script.show();

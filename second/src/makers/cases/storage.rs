@@ -3,7 +3,7 @@
 use super::{
     bits, complete, half, last, octets, packet, sparse, sparse_start, start_data, whole, Row,
 };
-use crate::makers::script::{Held, Script};
+use crate::makers::script::{Field, Held, Script};
 use crate::model::packet::Flags;
 use crate::model::transport::BLOCK_SIZE;
 
@@ -135,9 +135,16 @@ fn unchanged(script: &mut Script) {
     script.read(9, 40, 8160);
     script.read(0, 1, 0);
     script.read(9, 40, 16_460);
-    script.release(0);
-    script.drop_file(9);
-    script.release(10);
+    for slot in [10, 32, 265] {
+        script.let_go(slot);
+    }
+    script.poke(Field::SlotCount, 0, 16_384);
+    for slot in [0, 9] {
+        script.read(slot, 1, 0);
+        script.let_go(slot);
+    }
+    script.no_frame();
+    script.poke(Field::SlotCount, 0, 0);
     script.frame(&[0; 1024]);
     script.unit(899, &[]);
     script.show();
@@ -150,12 +157,12 @@ fn choice(script: &mut Script) {
     }
     script.packets(0, &[whole(5, 3), whole(6, 4)]);
     script.show();
-    script.release(2);
+    script.let_go(2);
     script.end_of(0, &sparse_start(7, Flags::First, 0, bits(4, 9)));
     script.packets(0, &[whole(8, 5)]);
     script.show();
     script.packets(0, &[whole(9, 6)]);
-    script.release(3);
+    script.let_go(3);
     script.packets(0, &[whole(9, 6)]);
     script.show();
 }
@@ -180,10 +187,10 @@ fn rest_stays(script: &mut Script) {
     }
     script.filled(0, 0, &whole(5, 9));
     script.show();
-    script.release(0);
+    script.let_go(0);
     script.filled(0, 0, &packet(5, Flags::Whole, 0, &start_data(8, 11)));
     script.show();
-    script.release(0);
+    script.let_go(0);
     script.held(&Held {
         length: 8 * 8180,
         ..complete(0, 0, 5, 0)

@@ -15,14 +15,15 @@ impl Maker {
         free.map(|slot| slot as u16)
     }
 
-    /// A file of need 2 to 4 poked in but for its last packets, which are sent.
+    /// A file of need 2 to 4 poked in but for its last packets, which are sent. Now and then it is
+    /// read too early, or let go, so that its packets come too late.
     pub fn half_file(&mut self) {
         let turn = self.chance.below(self.senders.len() as u64) as usize;
         let free = self.state().free_blocks();
         let need = self.chance.between(2, 4) as usize;
         let fits = free.len() >= need && turn < self.senders.len();
         let (Some(slot), true) = (self.free_slot(), fits) else {
-            return self.release_all();
+            return self.let_most_go();
         };
         let rest = self.chance.pick(&[1, 2, 9, 100]);
         let octets = self.chance.octets((need - 1) * BLOCK_SIZE - 10 + rest);
@@ -43,6 +44,12 @@ impl Maker {
             blocks: free[..need].iter().map(|&block| block as u16).collect(),
         });
         self.senders[turn].add_file(packets[accepted..].to_vec());
+        if self.chance.one_in(5) {
+            self.script.read(slot, 1, 0);
+        }
+        if self.chance.one_in(5) {
+            self.script.let_go(slot);
+        }
     }
 
     /// Two to five packets of the files of a channel, each in one frame or two.

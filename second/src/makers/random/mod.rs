@@ -23,9 +23,8 @@ enum Turn {
     Frame,
     OddFrame,
     Read,
-    Release,
-    ReleaseAll,
-    Drop,
+    LetGo,
+    LetMostGo,
     Show,
     SetUp,
     Lend,
@@ -40,18 +39,17 @@ enum Turn {
 const TURNS: &[(u64, Turn)] = &[
     (300, Turn::Frame),
     (14, Turn::OddFrame),
-    (60, Turn::Read),
-    (25, Turn::Release),
-    (16, Turn::ReleaseAll),
-    (12, Turn::Drop),
+    (66, Turn::Read),
+    (37, Turn::LetGo),
+    (16, Turn::LetMostGo),
     (8, Turn::Show),
     (4, Turn::SetUp),
     (8, Turn::Lend),
     (26, Turn::PokeState),
     (8, Turn::PokeDesks),
     (6, Turn::PokeStore),
-    (22, Turn::HalfFile),
-    (22, Turn::LongFile),
+    (32, Turn::HalfFile),
+    (28, Turn::LongFile),
     (3, Turn::FullSlots),
 ];
 
@@ -66,9 +64,8 @@ pub fn run(seed: u64, commands: u64, out: &mut dyn Write) {
         maker.turn();
     }
     maker.script.show();
+    maker.end();
     let _ = out.write_all(&maker.script.octets);
-    let left_over = maker.chance.pick(&[0, 0, 3, 15]);
-    let _ = out.write_all(&maker.chance.octets(left_over));
 }
 
 struct Maker {
@@ -122,9 +119,8 @@ impl Maker {
             Turn::Frame => self.frame(),
             Turn::OddFrame => self.odd_frame(),
             Turn::Read => self.read(),
-            Turn::Release => self.release(),
-            Turn::ReleaseAll => self.release_all(),
-            Turn::Drop => self.drop_file(),
+            Turn::LetGo => self.let_go(),
+            Turn::LetMostGo => self.let_most_go(),
             Turn::Show => self.script.show(),
             Turn::SetUp => self.set_up(),
             Turn::Lend => self.lend(),
@@ -140,6 +136,25 @@ impl Maker {
             self.script.show();
             self.carry_out();
         }
+    }
+
+    /// Nothing more, or a command cut short, or what ends the run.
+    fn end(&mut self) {
+        if self.chance.one_in(4) {
+            return self.unknown_letter();
+        }
+        let left_over = self.chance.pick(&[0, 0, 3, 15]);
+        let octets = self.chance.octets(left_over);
+        self.script.octets.extend(octets);
+    }
+
+    /// A letter that is not in the table, more often than others the one that 02, 3/14, took out of
+    /// it; were it carried out, the command behind it would show that.
+    fn unknown_letter(&mut self) {
+        let letter = self.chance.pick(b"DDDXlh\0\xff");
+        let slot = self.slot(Slot::is_held);
+        self.script.command(letter, 0, slot, 0, 0);
+        self.script.show();
     }
 
     fn frame(&mut self) {
@@ -217,26 +232,23 @@ impl Maker {
         self.script.read(slot, length as u32, offset);
     }
 
-    fn release(&mut self) {
-        let slot = self.held_slot();
-        self.script.release(slot);
+    /// A file let go, incomplete now and then, or a slot that is free, or none.
+    fn let_go(&mut self) {
+        let slot = match self.chance.below(8) {
+            0 => self.slot(|file| !file.is_held()),
+            1..=3 => self.slot(Slot::is_incomplete),
+            _ => self.slot(Slot::is_complete),
+        };
+        self.script.let_go(slot);
     }
 
     /// Most complete files, as a caller does who has read them.
-    fn release_all(&mut self) {
+    fn let_most_go(&mut self) {
         for slot in 0..SLOTS {
             if self.state().slots[slot].is_complete() && !self.chance.one_in(6) {
-                self.script.release(slot as u16);
+                self.script.let_go(slot as u16);
             }
         }
-    }
-
-    fn drop_file(&mut self) {
-        let slot = match self.chance.below(4) {
-            0 => self.slot(Slot::is_complete),
-            _ => self.slot(Slot::is_incomplete),
-        };
-        self.script.drop_file(slot);
     }
 
     /// Memory of another size for one or two calls.
@@ -261,8 +273,7 @@ impl Maker {
                 0 => self.script.no_frame(),
                 1 => self.frame(),
                 2 => self.read(),
-                3 => self.release(),
-                4 => self.drop_file(),
+                3 | 4 => self.let_go(),
                 _ => self.script.show(),
             }
         }

@@ -27,12 +27,17 @@ impl Maker {
         }
     }
 
-    /// Calls that change nothing: 2, or 11 and 3, unless memory is wrong.
+    /// Calls that change nothing: 2, or 11 and 3, unless memory is wrong. Where 2 is to come, the
+    /// slot may be a held one.
     fn judge(&mut self) {
+        self.carry_out();
+        let slot = match self.unsound {
+            0 => 32,
+            _ => self.held_slot(),
+        };
         match self.chance.below(3) {
-            0 => self.script.read(32, 0, 0),
-            1 => self.script.release(32),
-            _ => self.script.drop_file(32),
+            0 => self.script.read(slot, 0, 0),
+            _ => self.script.let_go(slot),
         }
         self.script.no_frame();
     }
