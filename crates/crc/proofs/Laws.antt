@@ -1,5 +1,5 @@
 -- The register over joined octets, how large it can be, that data followed by its own check leaves it 0, and that zeros then do. Assumes nothing.
-use mathlib.Core.Path.{_≡_, refl, ap, ap₂, _∙_}
+use mathlib.Core.Path.{_≡_, refl, sym, ap, ap₂, _∙_}
 use mathlib.Core.Bool.{Bool, true, false}
 use mathlib.Core.List.{List, [], _∷_, _++_}
 use Prim.Native.Nat.{ℕ, zero, suc, _+_, _*_, _/_, _%_, _^_, _<_, _≤_}
@@ -8,7 +8,7 @@ use native.Mathlib.Omega.{arith}
 use borrow.Author.Tests.{lt-ltb}
 use lib.Bits.{bitXor, xor-lt, xor-block, xor-self, xor-zero-r}
 use lib.Dec.{ltb}
-use lib.ListN.{replicate}
+use lib.ListN.{length, drop, replicate, drop-of-length-le}
 use lib.Pow.{pow-pos}
 use Rattle.octets.specs.Choice.{if_then_else_}
 use Rattle.crc.specs.Crc.{bit, shifted, octet, crcFrom, crcOf}
@@ -19,8 +19,13 @@ unfolding crcFrom
 crc-append c [] ys = refl
 crc-append c (x ∷ xs) ys = crc-append (octet c x) xs ys
 
+-- where no octets are left the register is what was wanted
+pub none-left : (xs : List ℕ) (c i t : ℕ) → length xs ≤ i → t ≡ crcFrom c (drop i xs) → c ≡ t
+unfolding crcFrom
+none-left xs c i t h e = sym (e ∙ ap (crcFrom c) (drop-of-length-le xs h))
+
 -- a register of 16 bits stays one
-bit-below : (c : ℕ) → bit c < 0x10000
+pub bit-below : (c : ℕ) → bit c < 0x10000
 unfolding bit
 bit-below c = go (ltb c 0x8000)
   where
@@ -33,7 +38,7 @@ unfolding shifted
 shifted-below zero c h = h
 shifted-below (suc n) c h = shifted-below n (bit c) (bit-below c)
 
-octet-below : (c x : ℕ) → octet c x < 0x10000
+pub octet-below : (c x : ℕ) → octet c x < 0x10000
 unfolding octet shifted
 octet-below c x = shifted-below 7 (bit (bitXor c (x * 0x100))) (bit-below (bitXor c (x * 0x100)))
 
@@ -43,7 +48,7 @@ crc-below c [] h = h
 crc-below c (x ∷ xs) h = crc-below (octet c x) xs (octet-below c x)
 
 -- while no one falls out at the top, n bits are a factor of 2^n
-none-out : (n c : ℕ) → c * 2 ^ n < 0x10000 → shifted n c ≡ c * 2 ^ n
+pub none-out : (n c : ℕ) → c * 2 ^ n < 0x10000 → shifted n c ≡ c * 2 ^ n
 unfolding shifted bit
 none-out zero c h = omega arith
 none-out (suc n) c h =

@@ -1,2 +1,4 @@
--- The laws of the packets' check.
+-- The laws of the packets' check, that the register is linear, and the part that each octet has in it.
 pub mod Laws
+pub mod Linear
+pub mod Parts

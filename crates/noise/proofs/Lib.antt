@@ -1,4 +1,3 @@
--- The laws of exclusive or, of the sequence and of the mixing.
-pub mod Xor
+-- The laws of the sequence and of the mixing.
 pub mod Rule
 pub mod Mixing

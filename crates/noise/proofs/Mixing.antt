@@ -11,8 +11,8 @@ use Rattle.octets.specs.Number.{Octets, part}
 use Rattle.octets.specs.Buffer.{put}
 use Rattle.octets.proofs.Lists.{whole-part, part-at}
 use Rattle.octets.proofs.Put.{put-nil, put-put, put-whole, copy-more, copy-all}
+use Rattle.octets.proofs.Xor.{xor-cancel}
 use Rattle.noise.specs.Noise.{octetFrom, noiseAt, noiseFrom, period, xored, mixedFrom, mixed}
-use Rattle.noise.proofs.Xor.{xor-cancel}
 use Rattle.noise.proofs.Rule.{octet-below, noise-mod}
 
 length-mixedFrom : (i : ℕ) (xs : List ℕ) → length (mixedFrom i xs) ≡ length xs

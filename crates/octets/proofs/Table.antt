@@ -1,32 +1,44 @@
--- A rule that a test finds at each entry of a table holds at each place of it: the test is computed once, entry after entry. Assumes nothing.
-use mathlib.Core.Path.{_∙_, subst, sym}
-use mathlib.Core.Bool.{Bool, true, false, _&&_}
+-- A table by a rule: a test that runs over it once, and what it then has at each place. Assumes nothing.
+use mathlib.Core.Path.{_≡_, refl, sym, ap, ap₂, _∙_}
 use mathlib.Core.List.{List, [], _∷_}
 use Prim.Native.Nat.{ℕ, zero, suc, _+_, _<_}
-use native.Mathlib.Nat.{add-zero, zero-add, add-suc, suc-add, le-of-suc-le-suc, not-suc-le-zero}
-use lib.Dec.{T}
+use native.Mathlib.Nat.{add-zero, zero-add, le-of-suc-le-suc, not-suc-le-zero}
+use native.Mathlib.Omega.{arith}
+use borrow.Author.Tests.{eqb-true}
+use lib.Dec.{eqb}
 use lib.ListN.{length, getD}
+use Rattle.octets.specs.Choice.{if_then_else_}
+use Rattle.octets.specs.Table.{entriesFrom, tableOf}
+use Rattle.octets.proofs.Lists.{if-cases}
 
-pub both-left : (a b : Bool) → T (a && b) → T a
-both-left true b t = tt
-both-left false b t = t
+module _ (rule : ℕ → ℕ) where
+  -- how many of some entries in a row, the first at place i, are what the rule gives, up to the first that is not
+  unfoldable pub right : ℕ → List ℕ → ℕ
+  right i [] = 0
+  right i (x ∷ xs) = if eqb x (rule i) then suc (right (suc i) xs) else 0
 
-pub both-right : (a b : Bool) → T (a && b) → T b
-both-right true b t = t
-both-right false b t = absurd t
+  entries-right : (n i : ℕ) (xs : List ℕ) → length xs ≡ n → right i xs ≡ n → xs ≡ entriesFrom n i rule
+  unfolding right entriesFrom
+  entries-right zero i [] e t = refl
+  entries-right zero i (x ∷ xs) e t = absurd (omega arith)
+  entries-right (suc n) i [] e t = absurd (omega arith)
+  entries-right (suc n) i (x ∷ xs) e t =
+      if-cases (λ (m : ℕ). m ≡ suc n → x ∷ xs ≡ rule i ∷ entriesFrom n (suc i) rule) (eqb x (rule i))
+      (λ q m. ap₂ (λ (y : ℕ) (ys : List ℕ). y ∷ ys) (eqb-true x (rule i) q) (entries-right n (suc i) xs (omega arith) (omega arith)))
+      (λ q m. absurd (omega arith))
+      t
 
--- the test passes at each entry and its place, the places counted from i
-abbrev pub every : (ℕ → ℕ → Bool) → ℕ → List ℕ → Bool
-every test i [] = true
-every test i (x ∷ xs) = test i x && every test (suc i) xs
+  -- where the test comes to the end of the table, it is the rule's
+  pub table-right : (n : ℕ) (xs : List ℕ) → length xs ≡ n → right 0 xs ≡ n → xs ≡ tableOf n rule
+  unfolding tableOf
+  table-right n xs e t = entries-right n 0 xs e t
 
-from : (test : ℕ → ℕ → Bool) (xs : List ℕ) (i : ℕ) → T (every test i xs) → (k : ℕ) → k < length xs → T (test (i + k) (getD xs k 0))
-from test [] i t k h = absurd (not-suc-le-zero h)
-from test (x ∷ xs) i t zero h =
-    subst (λ (m : ℕ). T (test m x)) (sym (add-zero i)) (both-left (test i x) (every test (suc i) xs) t)
-from test (x ∷ xs) i t (suc k) h =
-    subst (λ (m : ℕ). T (test m (getD xs k 0))) (suc-add i k ∙ sym (add-suc i k))
-    (from test xs (suc i) (both-right (test i x) (every test (suc i) xs) t) k (le-of-suc-le-suc h))
+  entries-at : (n i k : ℕ) → k < n → getD (entriesFrom n i rule) k 0 ≡ rule (i + k)
+  unfolding entriesFrom
+  entries-at zero i k h = absurd (not-suc-le-zero h)
+  entries-at (suc n) i zero h = sym (ap rule (add-zero i))
+  entries-at (suc n) i (suc k) h = entries-at n (suc i) k (le-of-suc-le-suc h) ∙ ap rule (omega arith)
 
-pub at : (test : ℕ → ℕ → Bool) (xs : List ℕ) → T (every test 0 xs) → (k : ℕ) → k < length xs → T (test k (getD xs k 0))
-at test xs t k h = subst (λ (m : ℕ). T (test m (getD xs k 0))) (zero-add k) (from test xs 0 t k h)
+  pub table-at : (n k : ℕ) → k < n → getD (tableOf n rule) k 0 ≡ rule k
+  unfolding tableOf
+  table-at n k h = entries-at n 0 k h ∙ ap rule (zero-add k)

@@ -1,4 +1,4 @@
--- Octets: how definitions choose, numbers in octets, and buffers after a run of stores.
+-- Octets: how definitions choose, numbers in octets, buffers after a run of stores, and tables by a rule.
 
 -- The paper: numbers most significant octet first, and "the lowest number that applies".
 pub mod Number
@@ -7,3 +7,4 @@ pub mod Reasons
 pub mod Choice
 pub mod Buffer
 pub mod Each
+pub mod Table

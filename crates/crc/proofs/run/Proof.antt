@@ -1,61 +1,82 @@
--- `crc::run` meets its contract. The loop's invariant: what is wanted is what the octets that are left make of the register.
--- Assumes nothing.
-use mathlib.Core.Path.{_≡_, refl, sym, _∙_, ap}
+-- `crc::run` meets its contract: few octets bit by bit; of many those that are over a multiple of four, then the others by the tables. Assumes nothing.
+use mathlib.Core.Path.{_≡_, sym, ap, ap₂, _∙_}
 use mathlib.Core.List.{List}
-use Prim.Native.Nat.{ℕ, _+_, _-_, _≤_, _<_}
-use native.Mathlib.Numerals.{add-one}
+use Prim.Native.Nat.{ℕ, _-_, _%_}
+use native.Mathlib.Nat.{sub-zero}
 use native.Mathlib.Omega.{arith}
-use lib.ListN.{length, getD, drop, drop-of-length-le}
-use lib.Seq.{drop-cons}
-use Rattle.crc.specs.Crc.{octet, crcFrom}
+use borrow.Author.Needs.{needs}
+use lib.ListN.{length, take, drop, take-append-drop, length-drop}
+use lib.Seq.{take-all}
+use Rattle.octets.specs.Number.{part}
+use Rattle.crc.specs.Crc.{crcFrom}
+use Rattle.crc.proofs.Laws.{crc-append}
 use Rattle.crc.proofs.run.Statement.{statement}
 use Rattle.crc.proofs.run.Tie as tie
 
-one-more : (xs : List ℕ) (c s i t : ℕ) → i < length xs → t ≡ crcFrom c (drop i xs) → s ≡ octet c (getD xs i 0) → t ≡ crcFrom s (drop (i + 1) xs)
-unfolding crcFrom
-one-more xs c s i t h e f = rw (add-one, f) (e ∙ ap (crcFrom c) (drop-cons xs i 0 h))
+joined : (register : ℕ) (xs : List ℕ) (n c r : ℕ) → c ≡ crcFrom register (part 0 (n - 0) xs) → r ≡ crcFrom c (part n (length xs - n) xs) → r ≡ crcFrom register xs
+joined register xs n c r e f =
+    let front : part 0 (n - 0) xs ≡ take n xs = ap (λ (m : ℕ). take m xs) (sub-zero n) in
+    let behind : part n (length xs - n) xs ≡ drop n xs = take-all (length xs - n) (drop n xs) (omega (arith, length-drop n xs)) in
+    f
+    ∙ ap₂ crcFrom (e ∙ ap (crcFrom register) front) behind
+    ∙ sym (crc-append register (take n xs) (drop n xs))
+    ∙ ap (crcFrom register) (take-append-drop n xs)
 
-none-left : (xs : List ℕ) (c i t : ℕ) → length xs ≤ i → t ≡ crcFrom c (drop i xs) → c ≡ t
-unfolding crcFrom
-none-left xs c i t h e = sym (e ∙ ap (crcFrom c) (drop-of-length-le xs h))
+by-bits-requires : tie.Need-by-bits-requires
+by-bits-requires c κs = search needs
 
-abbrev Inv-loop : tie.InvT-loop
-Inv-loop register octets c₀ i₀ c i = (i ≤ length octets) × (crcFrom register octets ≡ crcFrom c (drop i octets))
+returns : tie.Need-returns
+returns c = search needs
 
-abbrev μ-loop : tie.MeasureT-loop
-μ-loop register octets c₀ i₀ c i = length octets - i
+by-tables-requires : tie.Need-by-tables-requires
+by-tables-requires c κs = search needs
 
-loop-holds : tie.Need-loop-holds Inv-loop μ-loop
-loop-holds c = (omega arith, refl)
+returns-2 : tie.Need-returns-2
+returns-2 c = search needs
 
-shared-slice-read-octet : tie.Need-shared-slice-read-octet Inv-loop μ-loop
-shared-slice-read-octet c = omega arith
+sub-by-bits : tie.Need-sub-by-bits
+sub-by-bits c = search needs
 
-octet-requires : tie.Need-octet-requires Inv-loop μ-loop
-octet-requires c κs = tt
+part-by-bits-start : tie.Need-part-by-bits-start
+part-by-bits-start c = search needs
 
-add-i : tie.Need-add-i Inv-loop μ-loop
-add-i c = omega arith
+part-by-bits-end : tie.Need-part-by-bits-end
+part-by-bits-end c = search needs
 
-loop-less : tie.Need-loop-less Inv-loop μ-loop
-loop-less c = omega arith
+by-bits-requires-2 : tie.Need-by-bits-requires-2
+by-bits-requires-2 c κs = search needs
 
-loop-again : tie.Need-loop-again Inv-loop μ-loop
-loop-again c = (omega arith, one-more _ _ _ _ _ (c .before .before .loop-test .taken) (c .before .before .before .loop .inv .1) (c .octet .ensures))
+sub-by-tables : tie.Need-sub-by-tables
+sub-by-tables c = search needs
 
-returns : tie.Need-returns Inv-loop μ-loop
-returns c = none-left _ _ _ _ (c .loop-test .left) (c .before .loop .inv .1)
+part-by-tables-start : tie.Need-part-by-tables-start
+part-by-tables-start c = search needs
+
+part-by-tables-end : tie.Need-part-by-tables-end
+part-by-tables-end c = search needs
+
+by-tables-requires-2 : tie.Need-by-tables-requires-2
+by-tables-requires-2 c κs = search needs
+
+returns-3 : tie.Need-returns-3
+returns-3 c =
+    let xs = c .before .before .before .before .before .before .before .args .octets .now in
+    joined _ xs (length xs % 4) _ _ (c .before .before .by-bits2 .ensures) (c .by-tables2 .ensures)
 
 pub run-spec : {M : Type 1} → statement M
 run-spec =
     tie.close
     (tie.spec
-    Inv-loop
-    μ-loop
-    loop-holds
-    shared-slice-read-octet
-    octet-requires
-    add-i
-    loop-less
-    loop-again
-    returns)
+    by-bits-requires
+    returns
+    by-tables-requires
+    returns-2
+    sub-by-bits
+    part-by-bits-start
+    part-by-bits-end
+    by-bits-requires-2
+    sub-by-tables
+    part-by-tables-start
+    part-by-tables-end
+    by-tables-requires-2
+    returns-3)

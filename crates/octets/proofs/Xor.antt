@@ -1,9 +1,9 @@
--- Exclusive or: the order of three does not matter, and twice the same is nothing. Assumes nothing.
+-- Exclusive or: neither order nor grouping matters, and twice the same is nothing. Assumes nothing.
 use mathlib.Core.Path.{_≡_, refl, sym, ap, _∙_}
 use Prim.Native.Nat.{ℕ, _+_, _/_, _%_}
 use native.Mathlib.Omega.{arith}
 use lib.Arith.{bin-ind}
-use lib.Bits.{bitXor, xor-add-and, xor-shr, xor-self, xor-zero-r}
+use lib.Bits.{bitXor, xor-add-and, xor-shr, xor-comm, xor-self, xor-zero-r}
 
 -- all bits but the lowest, and the lowest
 half : (a b : ℕ) → bitXor a b / 2 ≡ bitXor (a / 2) (b / 2)
@@ -34,3 +34,10 @@ xor-assoc = bin-ind (λ (a : ℕ). (b c : ℕ) → bitXor (bitXor a b) c ≡ bit
 
 pub xor-cancel : (a b : ℕ) → bitXor (bitXor a b) b ≡ a
 xor-cancel a b = xor-assoc a b b ∙ ap (bitXor a) (xor-self b) ∙ xor-zero-r a
+
+-- of two pairs, the inner ones change places
+pub xor-exchange : (a b c d : ℕ) → bitXor (bitXor a b) (bitXor c d) ≡ bitXor (bitXor a c) (bitXor b d)
+xor-exchange a b c d =
+    xor-assoc a b (bitXor c d)
+    ∙ ap (bitXor a) (sym (xor-assoc b c d) ∙ ap (λ (x : ℕ). bitXor x d) (xor-comm b c) ∙ xor-assoc c b d)
+    ∙ sym (xor-assoc a c (bitXor b d))
