@@ -25,6 +25,7 @@ bit-form c h =
     let one : c / 0x8000 ≡ 1 = omega (arith, ltb-false c 0x8000 e) in
     sym (ap (λ (x : ℕ). bitXor (c * 2 % 0x10000) (x * 0x1021)) one))
 
+-- the register moves up
 doubled : (a b : ℕ) → bitXor a b * 2 ≡ bitXor (a * 2) (b * 2)
 doubled a b =
     let left : a * 2 ≡ a * 2 ^ 1 + 0 = omega arith in
@@ -33,6 +34,7 @@ doubled a b =
     ap₂ bitXor left right ∙ xor-block 1 a b 0 0 (omega arith) (omega arith) in
     sym (both ∙ omega arith)
 
+-- the polynomial is exclusive-ored in for the one, for the other, or for both, which is for neither
 chosen : (x y : ℕ) → x < 2 → y < 2 → bitXor x y * 0x1021 ≡ bitXor (x * 0x1021) (y * 0x1021)
 chosen zero y h k = refl
 chosen (suc zero) zero h k = refl

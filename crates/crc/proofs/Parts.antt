@@ -23,9 +23,9 @@ abbrev pub made : ℕ → List ℕ
 made zeros = tableOf 256 (entry zeros)
 
 -- an octet meets the register's upper octet, and the lower one moves up
-enters : (c x : ℕ) → c < 0x10000 → x < 0x100 → octet c x ≡ bitXor (octet 0 (bitXor (c / 0x100) x)) (c % 0x100 * 0x100)
+meets : (c x : ℕ) → c < 0x10000 → x < 0x100 → octet c x ≡ bitXor (octet 0 (bitXor (c / 0x100) x)) (c % 0x100 * 0x100)
 unfolding octet
-enters c x h k =
+meets c x h k =
     let upper = bitXor (c / 0x100) x in
     let below : upper < 0x100 = xor-lt 8 (c / 0x100) x (omega arith) k in
     let halves : c ≡ c / 0x100 * 0x100 + c % 0x100 = omega arith in
@@ -43,7 +43,7 @@ enters c x h k =
 apart : (c x : ℕ) (xs : List ℕ) → c < 0x10000 → x < 0x100 → Octets xs → crcFrom c (x ∷ xs) ≡ bitXor (entry (length xs) (bitXor (c / 0x100) x)) (crcFrom (c % 0x100 * 0x100) xs)
 unfolding crcFrom
 apart c x xs h k os =
-    ap (λ (r : ℕ). crcFrom r xs) (enters c x h k)
+    ap (λ (r : ℕ). crcFrom r xs) (meets c x h k)
     ∙ crc-linear (octet 0 (bitXor (c / 0x100) x)) (c % 0x100 * 0x100) xs (octet-below 0 (bitXor (c / 0x100) x)) (omega arith) os
 
 one-octet : (x : ℕ) (xs : List ℕ) → x < 0x100 → Octets xs → Octets (x ∷ xs)
