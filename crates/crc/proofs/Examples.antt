@@ -1,4 +1,4 @@
--- What the paper's three checks leave open, for they come out alike with any polynomial of degree 16: which one it is. Assumes nothing.
+-- What the paper's three checks leave open, since they come out alike with any polynomial of degree 16: which one it is. Assumes nothing.
 use mathlib.Core.Path.{_≡_, refl}
 use mathlib.Core.List.{[], _∷_}
 use Prim.Native.Nat.{_+_, _^_}
