@@ -4,15 +4,18 @@ use std::io::{self, BufWriter, Read, Write};
 use std::process::ExitCode;
 
 use second::makers::{
-    cases, chases, demo, headers, loads, make, random, random_chase, raw, stream,
+    cases, catalogues, chases, clerks, demo, headers, loads, make, random, random_chase,
+    random_clerk, raw, stream,
 };
-use second::model::{chase, hunt, program, trial, vectors};
+use second::model::{chase, clerk, hunt, printout, program, trial, vectors};
 
-const USAGE: &str = "usage: second vectors|trial|receive|chase < input
+const USAGE: &str = "usage: second vectors|trial|receive|chase|clerk|printout < input
        second hunt [K] < input
-       second example|headers|cases|page|chases|chase-page|demo
-       second case|chase-case NAME
-       second random|chase-random SEED COMMANDS
+       second example|headers|cases|page|chases|chase-page|clerk-cases|clerk-page|demo
+       second printout-sample
+       second case|chase-case|clerk-case NAME
+       second random|chase-random|clerk-random SEED COMMANDS
+       second catalogue-random SEED
        second stream SEED FRAMES
        second raw SEED OCTETS
        second load NAME SIZE";
@@ -32,12 +35,27 @@ fn main() -> ExitCode {
 
 /// Carries out a sub-command; false if the words are none.
 fn carry_out(words: &[&str], out: &mut dyn Write) -> bool {
+    run_program(words, out) || print_all(words, out) || make_one(words, out)
+}
+
+/// The programs, which read standard input.
+fn run_program(words: &[&str], out: &mut dyn Write) -> bool {
     match words {
         ["vectors"] => vectors::run(&whole_input(), out),
         ["trial"] => trial::run(&whole_input(), out),
         ["receive"] => program::run(&mut io::stdin().lock(), out),
         ["chase"] => chase::run(&whole_input(), out),
         ["hunt", behind @ ..] => hunt::run(behind, &mut io::stdin().lock(), out, &mut io::stderr()),
+        ["clerk"] => clerk::run(&whole_input(), out),
+        ["printout"] => printout::run(&mut io::stdin().lock(), out),
+        _ => return false,
+    }
+    true
+}
+
+/// What is always the same.
+fn print_all(words: &[&str], out: &mut dyn Write) -> bool {
+    match words {
         ["example"] => write_example(out),
         ["headers"] => headers::run(out),
         ["cases"] => cases::write_names(out),
@@ -45,20 +63,35 @@ fn carry_out(words: &[&str], out: &mut dyn Write) -> bool {
         ["page"] => cases::write_page(out),
         ["chases"] => chases::write_names(out),
         ["chase-page"] => chases::write_page(out),
-        ["case", name] => return cases::write_case(name, out),
-        ["chase-case", name] => return chases::write_case(name, out),
-        ["random", seed, commands] => return with_numbers(seed, commands, random::run, out),
-        ["chase-random", seed, commands] => {
-            return with_numbers(seed, commands, random_chase::run, out);
-        }
-        ["stream", seed, frames] => return with_numbers(seed, frames, stream::run, out),
-        ["raw", seed, octets] => return with_numbers(seed, octets, raw::run, out),
-        ["load", name, size] => {
-            return size.parse().is_ok_and(|size| loads::run(name, size, out));
-        }
+        ["clerk-cases"] => clerks::write_names(out),
+        ["clerk-page"] => clerks::write_page(out),
+        ["printout-sample"] => catalogues::write_sample(out),
         _ => return false,
     }
     true
+}
+
+/// What has a name, or a seed and a size.
+fn make_one(words: &[&str], out: &mut dyn Write) -> bool {
+    match words {
+        ["case", name] => cases::write_case(name, out),
+        ["chase-case", name] => chases::write_case(name, out),
+        ["clerk-case", name] => clerks::write_case(name, out),
+        ["random", seed, commands] => with_numbers(seed, commands, random::run, out),
+        ["chase-random", seed, commands] => with_numbers(seed, commands, random_chase::run, out),
+        ["clerk-random", seed, commands] => with_numbers(seed, commands, random_clerk::run, out),
+        ["stream", seed, frames] => with_numbers(seed, frames, stream::run, out),
+        ["raw", seed, octets] => with_numbers(seed, octets, raw::run, out),
+        ["catalogue-random", seed] => match seed.parse() {
+            Ok(seed) => {
+                catalogues::run(seed, out);
+                true
+            }
+            Err(_) => false,
+        },
+        ["load", name, size] => size.parse().is_ok_and(|size| loads::run(name, size, out)),
+        _ => false,
+    }
 }
 
 /// A sub-command with a seed and a size; false if they are no numbers.

@@ -1,5 +1,3 @@
--- Laws of the commands of a chase script, and of a whole one.
+-- Laws of the commands of a chase script.
 pub mod Letters
-pub mod Fetching
 pub mod Hunting
-pub mod Chasing

@@ -8,14 +8,15 @@ mod calls;
 use libc::STDIN_FILENO;
 use libc::STDOUT_FILENO;
 use script::Command;
-use script::Payload;
+use script::Next;
 use stream::Hunter;
 ghost use mathlib.Core.Path.{_≡_};
 ghost use Prim.Native.Nat.{_≤_};
 ghost use lib.ListN.{length, take, drop};
 ghost use Rattle.stream.specs.Hunter.{noHunter};
 ghost use Rattle.script.specs.declared.Payload.the-variants.{Octets};
-ghost use Rattle.chase.specs.Script.{payloadOf, nextOf};
+ghost use Rattle.script.specs.Follow.{nextOf};
+ghost use Rattle.chase.specs.Script.{payloadOf};
 ghost use Rattle.chase.specs.Calls.{memory, carriedOut};
 ghost use Rattle.chase.specs.Run.{ended, chased, lastLine};
 
@@ -26,16 +27,10 @@ const BUFFER: usize = 2048;
 
 const TEXT: usize = 86;
 
-// What comes next of a script: a command with so many octets of payload behind it, or nothing that is carried out.
-pub enum Next {
-    Goes(Command, usize),
-    Ends,
-}
-
 // What comes at place at.
 fn fetch(script: &[u8], at: usize) -> Next
     requires { ⌜ at ≤ length (now script) ⌝ }
-    ensures { λ r. ⌜ r ≡ nextOf (drop at (now (script .entry))) ⌝ }
+    ensures { λ r. ⌜ r ≡ nextOf payloadOf (drop at (now (script .entry))) ⌝ }
 {
     let left = script.len() - at;
     if left < Command::SIZE {
@@ -44,17 +39,7 @@ fn fetch(script: &[u8], at: usize) -> Next
     let end = at + Command::SIZE;
     let x = Command::read(&script[at..end]);
     let p = calls::payload(x);
-    match p {
-        Payload::Refused => {
-            return Next::Ends;
-        }
-        Payload::Octets(k) => {
-            if left - Command::SIZE < k {
-                return Next::Ends;
-            }
-            return Next::Goes(x, k);
-        }
-    }
+    Next::by(left, x, p)
 }
 
 // One command carried out, and its text printed.

@@ -10,8 +10,8 @@ use Rattle.octets.proofs.Lists.{if-cases}
 use Rattle.lines.specs.Lines.{answerLine}
 use Rattle.script.specs.declared.Command.{Command}
 use Rattle.script.specs.Memory.{Memory, lent, octetPoked, statePoked, pokedBy}
-use Rattle.drive.specs.Calls.{setUpBy, frameBy, readBy, letGoBy, wasSetUp, tookFrame, wasLetGo, carriedOut}
-use Rattle.drive.specs.Printed.{framePrinted, readPrinted, letGoPrinted, shownBy, printed}
+use Rattle.drive.specs.Calls.{setUpBy, frameBy, readBy, letGoBy, toldBy, wasSetUp, tookFrame, wasLetGo, carriedOut}
+use Rattle.drive.specs.Printed.{framePrinted, readPrinted, letGoPrinted, toldPrinted, shownBy, printed}
 
 -- no more is lent than there is
 module _ (x : Command) (payload : List ℕ) (w : Memory) where
@@ -49,11 +49,15 @@ module _ (x : Command) (payload : List ℕ) (w : Memory) where
   unfolding carriedOut printed
   by-l l = (rw (is l 0x53, is l 0x46, is l 0x4C), rw (is l 0x53, is l 0x46, is l 0x52, is l 0x4C))
 
+  pub by-i : x .letter ≡ 0x49 → (carriedOut x payload w ≡ w) × (printed x payload w ≡ toldPrinted (toldBy x w))
+  unfolding carriedOut printed pokedBy
+  by-i l = (rw (is l 0x53, is l 0x46, is l 0x4C, is l 0x4D, is l 0x50, is l 0x51), rw (is l 0x53, is l 0x46, is l 0x52, is l 0x4C, is l 0x49))
+
   pub by-h : x .letter ≡ 0x48 → (carriedOut x payload w ≡ w) × (printed x payload w ≡ shownBy w)
   unfolding carriedOut printed pokedBy
-  by-h l = (rw (is l 0x53, is l 0x46, is l 0x4C, is l 0x4D, is l 0x50, is l 0x51), rw (is l 0x53, is l 0x46, is l 0x52, is l 0x4C, is l 0x48))
+  by-h l = (rw (is l 0x53, is l 0x46, is l 0x4C, is l 0x4D, is l 0x50, is l 0x51), rw (is l 0x53, is l 0x46, is l 0x52, is l 0x4C, is l 0x49, is l 0x48))
 
-  pub by-other : (x .letter ≡ 0x53 → ⊥) → (x .letter ≡ 0x46 → ⊥) → (x .letter ≡ 0x52 → ⊥) → (x .letter ≡ 0x4C → ⊥)
+  pub by-other : (x .letter ≡ 0x53 → ⊥) → (x .letter ≡ 0x46 → ⊥) → (x .letter ≡ 0x52 → ⊥) → (x .letter ≡ 0x4C → ⊥) → (x .letter ≡ 0x49 → ⊥)
       → (x .letter ≡ 0x48 → ⊥) → (carriedOut x payload w ≡ pokedBy x w) × (printed x payload w ≡ [])
   unfolding carriedOut printed
-  by-other s f r l n = (rw (ne-eqb _ _ s, ne-eqb _ _ f, ne-eqb _ _ l), rw (ne-eqb _ _ s, ne-eqb _ _ f, ne-eqb _ _ r, ne-eqb _ _ l, ne-eqb _ _ n))
+  by-other s f r l i n = (rw (ne-eqb _ _ s, ne-eqb _ _ f, ne-eqb _ _ l), rw (ne-eqb _ _ s, ne-eqb _ _ f, ne-eqb _ _ r, ne-eqb _ _ l, ne-eqb _ _ i, ne-eqb _ _ n))

@@ -1,22 +1,26 @@
 -- What comes of a call, for the whole buffers and as text. Assumes nothing.
 use mathlib.Core.Path.{_≡_, refl, sym, ap, subst, _∙_}
-use mathlib.Core.List.{List, _∷_, _++_}
+use mathlib.Core.List.{List, [], _∷_, _++_}
 use Prim.Native.Nat.{ℕ, zero, suc, _-_, _≤_}
 use native.Mathlib.Nat.{sub-zero, le-of-suc-le-suc}
 use native.Mathlib.Omega.{arith}
 use lib.ListN.{take, drop, replicate, take-append-drop}
 use Rattle.text.specs.Pieces.{Written}
-use Rattle.lines.specs.Lines.{frameLines, readLine}
+use Rattle.lines.specs.Lines.{answerLine, frameLines, readLine, toldLine}
+use Rattle.lines.proofs.Telling.{untold}
+use Rattle.facts.specs.declared.Facts.{Facts}
 use Rattle.state.specs.declared.Station.{Station}
 use Rattle.station.specs.SetUp.{SetUpOutcome, setUpGives, setUp}
 use Rattle.station.specs.Frame.{FrameOutcome, frameGives, framed}
-use Rattle.station.specs.Files.{ReadOutcome, readGives, readOut}
+use Rattle.station.specs.Files.{ReadOutcome, readGives, readOut, toldOf}
 use Rattle.station.specs.Handed.{WentOn}
+use Rattle.station.specs.declared.Told.{Told}
+use Rattle.station.specs.declared.Told.the-variants.{Refused, Known}
 use Rattle.script.specs.declared.Command.{Command}
 use Rattle.script.specs.declared.Run.{Run}
 use Rattle.script.specs.Memory.{Memory, memory}
-use Rattle.drive.specs.Calls.{with, setUpBy, wasSetUp, frameBy, tookFrame, readBy}
-use Rattle.drive.specs.Printed.{framePrinted, readPrinted}
+use Rattle.drive.specs.Calls.{with, setUpBy, wasSetUp, frameBy, tookFrame, readBy, toldBy}
+use Rattle.drive.specs.Printed.{framePrinted, readPrinted, toldPrinted}
 
 -- another state, and as much lent as before
 abbrev holding : Station → Run → List ℕ → List ℕ → Memory
@@ -65,6 +69,10 @@ pub read-given : (x : Command) (w : Run) (desks store : List ℕ) → x .c ≤ 1
     → readOut (w .station) (take (w .store - 0) store) (x .b) (x .d) (take (x .c - 0) (replicate 16384 0)) ≡ readBy x (memory w desks store)
 read-given x w desks store few = rw (sub-zero (w .store), sub-zero (x .c), take-zeros (x .c) 16384 few)
 
+-- a file told of, from the octets lent
+pub told-given : (x : Command) (w : Run) (desks store : List ℕ) → toldOf (w .station) (take (w .store - 0) store) (x .b) ≡ toldBy x (memory w desks store)
+told-given x w desks store = rw (sub-zero (w .store))
+
 -- the text of a frame call that gives an outcome
 pub frame-told : {n k : ℕ} {s₁ : Station} {desks₁ store₁ list₁ : List ℕ} {o : FrameOutcome} → frameGives n k s₁ desks₁ store₁ list₁ ≡ o
     → frameLines n k list₁ ≡ framePrinted o
@@ -74,3 +82,12 @@ frame-told e = ap framePrinted e
 pub read-told : {n : ℕ} {buffer : List ℕ} {o : ReadOutcome} {before after : List ℕ} {end : ℕ} → readGives n buffer ≡ o
     → Written before 0 (readLine n buffer) after end → Written before 0 (readPrinted o) after end
 read-told {before = before} {after = after} {end = end} e w = subst (λ (o : ReadOutcome). Written before 0 (readPrinted o) after end) e w
+
+-- and of what is told of a file
+module _ {t : Told} {before after : List ℕ} {end : ℕ} where
+  pub refused-told : {n : ℕ} → t ≡ Refused n → Written before 0 (answerLine 0x49 n) after end → Written before 0 (toldPrinted t) after end
+  refused-told {n} e w = rw e (rw (untold n) at w)
+
+  pub known-told : {f : Facts} → t ≡ Known f → Written before 0 (toldLine 0 (f .channel .0 ∷ f .application .0 ∷ f .counter ∷ f .bits ∷ [])) after end
+      → Written before 0 (toldPrinted t) after end
+  known-told e w = rw e w

@@ -1,4 +1,4 @@
--- What S, F, R and L do, on the octets lent, and what a command does by its letter. Assumes nothing.
+-- What S, F, R, L and I do, on the octets lent, and what a command does by its letter. Assumes nothing.
 use mathlib.Core.List.{List, _++_}
 use Prim.Native.Nat.{ℕ}
 use lib.Dec.{eqb}
@@ -8,7 +8,8 @@ use Rattle.state.specs.declared.Station.{Station}
 use Rattle.station.specs.SetUp.{SetUpOutcome, setUp}
 use Rattle.station.specs.Frame.{FrameOutcome, framed}
 use Rattle.station.specs.declared.LetGo.{LetGo}
-use Rattle.station.specs.Files.{ReadOutcome, readOut, fileLetGo}
+use Rattle.station.specs.declared.Told.{Told}
+use Rattle.station.specs.Files.{ReadOutcome, readOut, fileLetGo, toldOf}
 use Rattle.script.specs.declared.Command.{Command}
 use Rattle.script.specs.Memory.{Memory, lentDesks, lentStore, withState, pokedBy}
 
@@ -49,7 +50,11 @@ letGoBy x w = fileLetGo (w .station) (x .b)
 unfoldable pub wasLetGo : Command → Memory → Memory
 wasLetGo x w = withState w (letGoBy x w .station)
 
--- what a command does, by its letter: S, F and L, then M, P and Q; R and H change nothing
+-- I: "the facts of the file of slot b .., lent the store as a read is"
+abbrev pub toldBy : Command → Memory → Told
+toldBy x w = toldOf (w .station) (lentStore w) (x .b)
+
+-- what a command does, by its letter: S, F and L, then M, P and Q; R, I and H change nothing
 unfoldable pub carriedOut : Command → List ℕ → Memory → Memory
 carriedOut x payload w =
     if eqb (x .letter) 0x53 then wasSetUp x payload w

@@ -3,14 +3,15 @@ use mathlib.Core.List.{List, []}
 use Prim.Native.Nat.{ℕ}
 use lib.Dec.{eqb}
 use Rattle.octets.specs.Choice.{if_then_else_}
-use Rattle.lines.specs.Lines.{answerLine, frameLines, readLine, letGoLine}
+use Rattle.lines.specs.Lines.{answerLine, frameLines, readLine, letGoLine, toldLine}
 use Rattle.show.specs.Shown.{shown}
 use Rattle.station.specs.Frame.{FrameOutcome}
 use Rattle.station.specs.declared.LetGo.{LetGo}
-use Rattle.station.specs.Files.{ReadOutcome}
+use Rattle.station.specs.declared.Told.{Told}
+use Rattle.station.specs.Files.{ReadOutcome, toldNumber, toldValues}
 use Rattle.script.specs.declared.Command.{Command}
 use Rattle.script.specs.Memory.{Memory, lentDesks, lentStore}
-use Rattle.drive.specs.Calls.{setUpBy, frameBy, readBy, letGoBy}
+use Rattle.drive.specs.Calls.{setUpBy, frameBy, readBy, letGoBy, toldBy}
 
 -- "F answer count", and the lines of the events, of what comes of a frame
 abbrev pub framePrinted : FrameOutcome → List ℕ
@@ -24,6 +25,10 @@ readPrinted o = readLine (o .answer) (o .buffer)
 abbrev pub letGoPrinted : LetGo → List ℕ
 letGoPrinted o = letGoLine (o .answer) (o .complete)
 
+-- "I answer", and the facts, of what is told of a file
+abbrev pub toldPrinted : Told → List ℕ
+toldPrinted o = toldLine (toldNumber o) (toldValues o)
+
 -- H: "shows everything", of the desks and of the store what is lent
 abbrev pub shownBy : Memory → List ℕ
 shownBy w = shown (w .station) (lentDesks w) (lentStore w)
@@ -35,5 +40,6 @@ printed x payload w =
     else if eqb (x .letter) 0x46 then framePrinted (frameBy x payload w)
     else if eqb (x .letter) 0x52 then readPrinted (readBy x w)
     else if eqb (x .letter) 0x4C then letGoPrinted (letGoBy x w)
+    else if eqb (x .letter) 0x49 then toldPrinted (toldBy x w)
     else if eqb (x .letter) 0x48 then shownBy w
     else []

@@ -1,7 +1,8 @@
-// S, F, R and L: a call of the station each, and the text of what it answered. H: everything shown.
+// S, F, R, L and I: a call of the station each, and the text of what it answered. H: everything shown.
 use script::Command;
 use script::Run;
 use state::Station;
+use station::Told;
 ghost use mathlib.Core.Path.{_≡_};
 ghost use mathlib.Core.List.{List};
 ghost use Prim.Native.Nat.{ℕ, _≤_};
@@ -12,8 +13,8 @@ ghost use Rattle.script.specs.Memory.{memory};
 ghost use Rattle.station.specs.Frame.{framed};
 ghost use Rattle.station.specs.Files.{readOut, fileLetGo};
 ghost use Rattle.station.specs.Handed.{WentOn};
-ghost use Rattle.drive.specs.Calls.{setUpBy, wasSetUp, frameBy, tookFrame, readBy, wasLetGo};
-ghost use Rattle.drive.specs.Printed.{framePrinted, readPrinted, letGoPrinted, shownBy};
+ghost use Rattle.drive.specs.Calls.{setUpBy, wasSetUp, frameBy, tookFrame, readBy, wasLetGo, toldBy};
+ghost use Rattle.drive.specs.Printed.{framePrinted, readPrinted, letGoPrinted, toldPrinted, shownBy};
 
 // Set-up of the octets lent. The state after it is what set-up gave, also after a refusal.
 pub fn set_up(
@@ -132,6 +133,34 @@ pub fn read_file(w: Run, x: Command, store: &[u8], out: &mut [u8]) -> Run
     let mut buffer = [0u8; 16384];
     let mut r = w;
     r.end = read_lent(r.station, x, &store[0..m], &mut buffer[0..n], out);
+    r
+}
+
+// The line of what is told of a file.
+fn told_line(t: Told, out: &mut [u8]) -> usize
+    requires { ⌜ length (now out) ≡ 90844 ⌝ }
+    ensures { λ r. ⌜ (r ≤ 90844) × Written (now (out .entry)) 0 (toldPrinted t) (now (out .exit)) r ⌝ }
+{
+    match t {
+        Told::Refused(n) => lines::answer_line(b'I', n, out, 0),
+        Told::Known(f) => {
+            let channel = f.channel;
+            let application = f.application;
+            lines::told_line(channel.0, application.0, f.counter, f.bits, out, 0)
+        }
+    }
+}
+
+// What is known of a file. The call is lent the store, as a read is.
+pub fn tell_file(w: Run, x: Command, store: &[u8], out: &mut [u8]) -> Run
+    requires { ⌜ (w .store ≤ length (now store)) × (length (now out) ≡ 90844) ⌝ }
+    ensures { λ r. ⌜ ((desks store : List ℕ) → memory r desks store ≡ memory w desks store) ⌝ }
+    ensures { λ r. ⌜ (r .end ≤ 90844) × ((desks : List ℕ) → Written (now (out .entry)) 0 (toldPrinted (toldBy x (memory w desks (now (store .entry))))) (now (out .exit)) (r .end)) ⌝ }
+{
+    let m = w.store;
+    let mut r = w;
+    let told = files::tell_file(r.station, &store[0..m], x.b);
+    r.end = told_line(told, out);
     r
 }
 

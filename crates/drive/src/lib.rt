@@ -43,6 +43,9 @@ pub fn carry_out(
     if letter == b'L' {
         return calls::let_file_go(w, x, out);
     }
+    if letter == b'I' {
+        return calls::tell_file(w, x, store, out);
+    }
     if letter == b'H' {
         return calls::show_lent(w, desks, store, out);
     }

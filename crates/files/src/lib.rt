@@ -1,17 +1,19 @@
-// The calls on files: one reads a file, one lets it go.
+// The calls on files: one reads a file, one tells what is known of it, one lets it go.
 //
 // A slot is asked for first, and what is known of it decides. Each contract is one equation between everything that comes out and a
 // definition of the station's (station specs/Files.antt).
+use facts::Facts;
 use state::Station;
 use station::Asked;
 use station::LetGo;
+use station::Told;
 use transport::Transport;
 ghost use mathlib.Core.Path.{_≡_};
 ghost use mathlib.Core.Bool.{true};
 ghost use Prim.Native.Nat.{_≤_, _<_};
 ghost use Rattle.state.specs.Slots.{slotAt, complete};
 ghost use Rattle.state.specs.Decision.{isSound};
-ghost use Rattle.station.specs.Files.{asked, freed, fileLetGo, storeFits, readGives, readAs, readOut};
+ghost use Rattle.station.specs.Files.{asked, freed, fileLetGo, storeFits, readGives, readAs, readOut, toldAs, toldOf};
 
 // What every call that names a slot asks first.
 fn ask(s: Station, slot: u16) -> Asked
@@ -99,5 +101,40 @@ pub fn read_file(s: Station, store: &[u8], slot: u16, offset: u64, buffer: &mut 
         Asked::Refused(n) => n,
         Asked::Incomplete(_) => 12,
         Asked::Complete(k) => fill(s, store, k, offset, buffer),
+    }
+}
+
+// What is known of the complete file in slot k. All but the counter stands in the slot; the counter is the first two octets of the file's blocks.
+fn know(s: Station, store: &[u8], k: usize) -> Told
+    requires { ⌜ (storeFits (s .blocks) (now store) ≡ true) × (isSound s ≡ true) ⌝ }
+    requires { ⌜ (k < 32) × (complete (slotAt s k) ≡ true) ⌝ }
+    ensures { λ r. ⌜ r ≡ toldAs s (now (store .entry)) (Asked.Complete k) ⌝ }
+{
+    let mut two = [0u8; 2];
+    let blocks = s.blocks as usize;
+    pages::copy_out(&s.owner, blocks, k as u8 + 1, store, 0, &mut two);
+    let x = s.slots[k];
+    let channel = x.channel;
+    let application = x.application;
+    Told::Known(Facts {
+        channel: channel,
+        application: application,
+        counter: octets::u16_at(&two, 0),
+        bits: x.bits,
+    })
+}
+
+// What is known of the complete file in a slot. Answers 0, 1, 2, 11 or 12.
+pub fn tell_file(s: Station, store: &[u8], slot: u16) -> Told
+    ensures { λ r. ⌜ r ≡ toldOf s (now (store .entry)) slot ⌝ }
+{
+    if !station::store_fits(s.blocks, store) {
+        return Told::Refused(1);
+    }
+    let a = ask(s, slot);
+    match a {
+        Asked::Refused(n) => Told::Refused(n),
+        Asked::Incomplete(_) => Told::Refused(12),
+        Asked::Complete(k) => know(s, store, k),
     }
 }

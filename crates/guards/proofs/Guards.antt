@@ -30,13 +30,14 @@ use Rattle.judge.specs.Packets.{Starts}
 use Rattle.zone.specs.Zone.{split}
 use Rattle.zone.specs.Walk.{deskAfter, gap}
 use Rattle.zone.proofs.Readings.{reading-first}
+use Rattle.station.specs.declared.Told.the-variants.{Known}
 use Rattle.station.specs.SetUp.{channelOf, freshStation, setUp}
 use Rattle.station.specs.Files.{freed, fileLetGo}
 use Rattle.station.proofs.Fresh.{fresh-desk}
 use Rattle.station.proofs.Calls.{setUp-zero, letGo-outcome, letGo-zero, read-zero}
 use Rattle.history.specs.Run.{World, Call, answer, after, run, Start, fresh}
 use Rattle.history.specs.Run.Call.{frame, read, let-go}
-use Rattle.history.specs.Calls.{reported}
+use Rattle.history.specs.Calls.{reported, toldIn}
 use Rattle.history.specs.Things.{said}
 use Rattle.history.specs.Things.Thing.{packet, left}
 use Rattle.history.specs.Store.{Moment}
@@ -47,7 +48,7 @@ use Rattle.guards.specs.Guards.{noneTouched, goodHeader, partOfAnOctet, 
 use Rattle.guards.proofs.Sending.{accepts, cut, ListensOn, Listens, MakesOn, Makes, makes-none, step, brings-packets, BringsOn, Brings}
 use Rattle.guards.proofs.Losses.{fresh-is, loss-runs}
 use Rattle.guards.proofs.Making.{MakesOneOn, MakesOne, makes-then}
-use Rattle.guards.proofs.ReadOut.{read-out}
+use Rattle.guards.proofs.ReadOut.{read-out, facts-told}
 use Rattle.guards.proofs.Packets.{odd-cuts, damaged-makes, reserved-makes, ill-makes, Alone, written, whole-starts, sixOf, headOf, header-look, fileOn, fileAt, ten, bits, long-size, carries, first-opens, first-refused, middle-adds, last-adds, last-ends, tiny-stray, tiny-before, tiny-ends, fill-makes, fill-size, fill-cuts, last-cuts, whole-cuts, whole-head, whole-opens, whole-over}
 
 -- calls before calls
@@ -357,15 +358,23 @@ module _ (list : List ℕ) (listed : 900 ≤ length list) where
         (fresh x) (fresh-listens x p)
 
     -- the file of a whole packet, read out
-    out : {q : List ℕ} {L l : ℕ} → Alone q L l → need L ≡ 1 → (n : ℕ) → 9 ≤ n → length q + n ≡ 884
+    out : {q : List ℕ} {m L l : ℕ} → Alone q m L l → need L ≡ 1 → (n : ℕ) → 9 ≤ n → length q + n ≡ 884
         → readOut x (frame (sent 0 0 (q ++ fill n)) list ∷ []) ≡ drop 10 (flatten (dataOf q ∷ []))
-    out {q} {L} {l} a one n some size =
-        read-out x L l n q list listed (omega (arith, length-append q (fill n), fill-size n some (omega arith)))
+    out {q} {m} {L} {l} a one n some size =
+        read-out x m L l n q list listed (omega (arith, length-append q (fill n), fill-size n some (omega arith)))
         (a .cuts n some (omega arith)) some (omega arith) one (a .head) (a .starts) (a .opens) (fresh-listens x p)
 
     twelve-out : readOut x (partOfAnOctet list) ≡ 0xab ∷ 0xcf ∷ []
     unfolding need transportSize octetsOfBits flatten
     twelve-out = out (written .1) refl 864 (omega arith) refl
+
+    twelve-tells : toldIn (run (fresh x) (partOfAnOctet list)) 0
+        ≡ Known (record { channel = channelOf 2; application = record { 0 = 5 }; counter = 258; bits = 12 })
+    unfolding need transportSize octetsOfBits
+    twelve-tells =
+        let a = written .1 in
+        facts-told x 258 12 13 864 twelveBits list listed (omega (arith, length-append twelveBits (fill 864), fill-size 864 (omega arith) (omega arith)))
+        (a .cuts 864 (omega arith) (omega arith)) (omega arith) (omega arith) refl (a .head) (a .starts) (a .opens) (fresh-listens x p)
 
     twelve-ends : (offset : ℕ) (buffer : List ℕ) → answer (run (fresh x) (partOfAnOctet list)) (read 0 offset buffer) ≡ 0 → offset + length buffer ≤ 2
     unfolding octetsOfBits answer
@@ -384,7 +393,7 @@ module _ (list : List ℕ) (listed : 900 ≤ length list) where
     unfolding need transportSize octetsOfBits fileFrom freeFrom ofPair incomplete held needs flatten
     header-short =
         ap readHeader
-        (read-out x 8 12 865 whole list listed
+        (read-out x 0 8 12 865 whole list listed
         (omega (arith, length-append whole (fill 865), fill-size 865 (omega arith) (omega arith))) (whole-cuts 865 (omega arith) (omega arith) 5 (omega arith))
         (omega arith) (omega arith) refl (whole-head 5 (omega arith)) (whole-starts 5 (omega arith)) (whole-opens 5 (omega arith) none refl refl (omega arith))
         (fresh-listens x p))
@@ -413,6 +422,7 @@ module _ (list : List ℕ) (listed : 900 ≤ length list) where
           none-touched = touches-none .tells;
           twelve-bits = twelve-brings .tells;
           twelve-read = twelve-out;
+          twelve-told = twelve-tells;
           twelve-end = twelve-ends;
           header-refused = header-short;
           header-read = ap (λ (r : HeaderAnswer). r .read) (header-good ∙ alone-read);

@@ -150,6 +150,10 @@ ten L = 0 ∷ 0 ∷ 0 ∷ 0 ∷ 0 ∷ 0 ∷ 0 ∷ L / 0x10000 ∷ L / 0x100 % 0x
 abbrev pub bits : ℕ → Transport
 bits L = record { counter = 0; bits = L }
 
+-- with the counter m
+abbrev pub numbered : ℕ → ℕ → Transport
+numbered m L = record { counter = m; bits = L }
+
 module _ (L : ℕ) (small : L < 0x1000000) where
   ten-bits : bits L ≡ transportOf (long (ten L))
   unfolding transportOf number numberAt
@@ -336,34 +340,34 @@ module _ (a : ℕ) (low : a < 256) where
     whole-over j here free fits =
         makes-over (wholeOf a) (part 6 11 (wholeOf a)) (headOf a 3 0 12) whole-head refl xs whole-intact (inr refl) whole-right here free fits
 
--- a whole packet of application 5 for a file of L bits: how it is read, and what it makes of a station without files
-pub record Alone (p : List ℕ) (L l : ℕ) : Type 0 where
+-- a whole packet of application 5 for a file with counter m and L bits: how it is read, and what it makes of a station without files
+pub record Alone (p : List ℕ) (m L l : ℕ) : Type 0 where
   pub head : headOf 5 3 0 l ≡ packetOf p
-  pub starts : Starts p (bits L)
+  pub starts : Starts p (numbered m L)
   pub opens : MakesOne (replicate 32 noFile) p (fileAt 5 L 0 ∷ replicate 31 noFile) (at 10 5 0 ∷ at 12 5 0 ∷ [])
   pub cuts : (n : ℕ) → 9 ≤ n → n ≤ 884 → split (p ++ fill n) ≡ cut (p ∷ fill n ∷ []) []
 
 -- one with the header of length l, behind which stands xs
-alone : (l : ℕ) → 2 ≤ l → l ≤ 8191 → (xs : List ℕ) → let p = sixOf 0 5 3 0 l ++ xs in (L : ℕ) → begunOf 3 (dataOf p) ≡ Right (bits L) → need L ≤ 7
-    → eqb (crcOf (dataOf p)) (checkOf p) ≡ true → length p ≡ 7 + l → Alone p L l
+alone : (l : ℕ) → 2 ≤ l → l ≤ 8191 → (xs : List ℕ) → let p = sixOf 0 5 3 0 l ++ xs in (m L : ℕ) → begunOf 3 (dataOf p) ≡ Right (numbered m L)
+    → need L ≤ 7 → eqb (crcOf (dataOf p)) (checkOf p) ≡ true → length p ≡ 7 + l → Alone p m L l
 unfolding fileFrom freeFrom ofPair incomplete held needs
-alone l two ls xs L right fits check size =
+alone l two ls xs m L right fits check size =
     let p = sixOf 0 5 3 0 l ++ xs in
     let head : headOf 5 3 0 l ≡ packetOf p = whole-is 5 l (omega arith) two ls xs in
     let intact : Undamaged p = record { file = rw (← head) (omega arith); intact = check } in
     record {
       head = head;
       starts = record { undamaged = intact; starting = rw (← head) (inr refl); right = rw (← head) right };
-      opens = makes-open p (dataOf p) (headOf 5 3 0 l) head refl (replicate 32 noFile) intact (inr refl) {t = bits L} right refl refl (omega arith);
+      opens = makes-open p (dataOf p) (headOf 5 3 0 l) head refl (replicate 32 noFile) intact (inr refl) {t = numbered m L} right refl refl (omega arith);
       cuts = λ n some most. one-cut n some most p (whole-look 5 l (omega arith) two ls (xs ++ fill n)) size;
     }
 
 -- that of a file that is all header, and that of a file of 12 bits
-pub written : Alone headerAlone 128 27 × Alone twelveBits 12 13
+pub written : Alone headerAlone 0 128 27 × Alone twelveBits 258 12 13
 unfolding crcOf crcFrom octet shifted bit number numberAt begunOf transportOf goodLength wholeFits need transportSize octetsOfBits
 written = (
-  alone 27 (omega arith) (omega arith) (drop 6 headerAlone) 128 refl (omega arith) refl refl,
-  alone 13 (omega arith) (omega arith) (drop 6 twelveBits) 12 refl (omega arith) refl refl,
+  alone 27 (omega arith) (omega arith) (drop 6 headerAlone) 0 128 refl (omega arith) refl refl,
+  alone 13 (omega arith) (omega arith) (drop 6 twelveBits) 258 12 refl (omega arith) refl refl,
 )
 
 -- packets that touch no file: a wrong check, a reserved application, and a first packet of one octet

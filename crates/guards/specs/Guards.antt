@@ -17,9 +17,10 @@ use Rattle.state.specs.Slots.{slotAt, complete}
 use Rattle.transport.specs.declared.Transport.{Transport}
 use Rattle.events.specs.Event.{of, at}
 use Rattle.judge.specs.Packets.{Starts}
+use Rattle.station.specs.declared.Told.the-variants.{Known}
 use Rattle.history.specs.Run.{Call, answer, run, Start, fresh}
 use Rattle.history.specs.Run.Call.{frame, read, let-go}
-use Rattle.history.specs.Calls.{resultOf, reported}
+use Rattle.history.specs.Calls.{resultOf, reported, toldIn}
 use Rattle.history.specs.Store.{Moment}
 use Rattle.history.specs.Headers.{wholeRead}
 use Rattle.guards.specs.Losses.{LossRuns}
@@ -131,6 +132,10 @@ pub record Runs (x : Start) (list : List ℕ) : Type 0 where
   pub twelve-bits : allSaid (fresh x) (partOfAnOctet list) ≡ at 10 5 0 ∷ at 12 5 0 ∷ []
   -- its octets, with the bits that fill up the last one as they came
   pub twelve-read : readOut x (partOfAnOctet list) ≡ 0xab ∷ 0xcf ∷ []
+  -- its channel, its application, its counter and L (02, 5/14)
+  pub twelve-told :
+      toldIn (run (fresh x) (partOfAnOctet list)) 0
+      ≡ Known (record { channel = record { 0 = 2 }; application = record { 0 = 5 }; counter = 258; bits = 12 })
   -- "read passes the file's end": no read of more, or from behind it, is answered by 0
   pub twelve-end :
       (offset : ℕ) (buffer : List ℕ) → answer (run (fresh x) (partOfAnOctet list)) (read 0 offset buffer) ≡ 0 → offset + length buffer ≤ 2

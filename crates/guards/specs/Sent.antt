@@ -108,6 +108,7 @@ primary = 0 ∷ 0 ∷ 16 ∷ 2 ∷ 0 ∷ 0 ∷ 0 ∷ 16 ∷ replicate 8 0
 abbrev pub headerAlone : List ℕ
 headerAlone = 0 ∷ 5 ∷ 0xc0 ∷ 0 ∷ 0 ∷ 27 ∷ (0 ∷ 0 ∷ 0 ∷ 0 ∷ 0 ∷ 0 ∷ 0 ∷ 0 ∷ 0 ∷ 128 ∷ primary ++ (0xdf ∷ 0x89 ∷ []))
 
--- the whole packet of a file of 12 bits: application 5, ten octets and two, the second filled up with four bits, ones; and its check
+-- the whole packet of a file of 12 bits: application 5, ten octets with file counter 258, and two, the second filled up with four bits, ones;
+-- and its check
 abbrev pub twelveBits : List ℕ
-twelveBits = 0 ∷ 5 ∷ 0xc0 ∷ 0 ∷ 0 ∷ 13 ∷ 0 ∷ 0 ∷ 0 ∷ 0 ∷ 0 ∷ 0 ∷ 0 ∷ 0 ∷ 0 ∷ 12 ∷ 0xab ∷ 0xcf ∷ 0x18 ∷ 0xbf ∷ []
+twelveBits = 0 ∷ 5 ∷ 0xc0 ∷ 0 ∷ 0 ∷ 13 ∷ 1 ∷ 2 ∷ 0 ∷ 0 ∷ 0 ∷ 0 ∷ 0 ∷ 0 ∷ 0 ∷ 12 ∷ 0xab ∷ 0xcf ∷ 0xbb ∷ 0x79 ∷ []

@@ -2,7 +2,7 @@
 use Rattle.frame.proofs.Plainly.{plainly, zone-plainly}
 use Rattle.packet.proofs.Plainly.{plainly as packet-plainly, bad-plainly}
 use Rattle.history.specs.Demands.{First, Second, Third, Demands}
-use Rattle.history.proofs.Refused.{every-answer, zeros-after, every-set-up}
+use Rattle.history.proofs.Refused.{every-answer, every-telling, zeros-after, every-set-up}
 use Rattle.history.proofs.Sound.{every-sound, few-events}
 use Rattle.history.proofs.Follows.{held-exactly}
 use Rattle.history.proofs.Order.{packets-right, complete-exactly}
@@ -10,6 +10,7 @@ use Rattle.history.proofs.Blocks.{every-told, blocks-right, never-lost,
 use Rattle.history.proofs.Room.{refused-for-room-exactly, from-the-first}
 use Rattle.history.proofs.Pages.{blocks-hold, files-carried}
 use Rattle.history.proofs.Carried.{pages-came, no-strip}
+use Rattle.history.proofs.Facts.{facts-came, tellings-refused, facts-good}
 use Rattle.history.proofs.Sorted.{sorted-by-channel, files-sorted}
 use Rattle.history.proofs.Freed.{held-then, frees-at-once}
 use Rattle.history.proofs.LetGo.{lets-go, reports-exactly, reads-refused}
@@ -20,7 +21,16 @@ use Rattle.history.proofs.Events.{events-exactly}
 use Rattle.history.proofs.Headers.{headers-read}
 
 first : First
-first = record { answers = every-answer; zeros-after = zeros-after; sets-up = every-set-up; told = every-told; few = few-events; sound = every-sound }
+first =
+    record {
+      answers = every-answer;
+      tells = every-telling;
+      zeros-after = zeros-after;
+      sets-up = every-set-up;
+      told = every-told;
+      few = few-events;
+      sound = every-sound;
+    }
 
 second : Second
 second =
@@ -43,6 +53,9 @@ second =
       reads = reads-refused;
       pages = pages-came;
       no-strip = no-strip;
+      facts = facts-came;
+      untold = tellings-refused;
+      facts-good = facts-good;
       headers = headers-read;
     }
 

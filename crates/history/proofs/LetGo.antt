@@ -38,7 +38,7 @@ unfolding complete
 none-complete x e = rw e
 
 -- what is not a held slot
-not-held : (s : Station) (k : ℕ) → ((k < 32) × (held (slotAt s k) ≡ true) → ⊥) → isHeld s k ≡ false
+pub not-held : (s : Station) (k : ℕ) → ((k < 32) × (held (slotAt s k) ≡ true) → ⊥) → isHeld s k ≡ false
 not-held s k none = go (isHeld s k) refl
   where
     go : (b : Bool) → isHeld s k ≡ b → b ≡ false

@@ -14,6 +14,7 @@ pub mod Carried
 pub mod Sorted
 pub mod Freed
 pub mod LetGo
+pub mod Facts
 pub mod Once
 pub mod Openings
 pub mod Heard

@@ -11,14 +11,14 @@ use Rattle.state.proofs.Exactly.{sound-yes}
 use Rattle.state.proofs.Plainly.{stray-refused}
 use Rattle.octets.specs.Reasons.{Reason}
 use Rattle.station.specs.declared.LetGo.{LetGo}
-use Rattle.station.specs.Files.{ReadOutcome}
+use Rattle.station.specs.Files.{ReadOutcome, toldValues}
 use Rattle.station.specs.Frame.{FrameOutcome, lentRight}
 use Rattle.station.proofs.Decided.{Outcome}
 use Rattle.station.proofs.Frames.{lent-desks, lent-wrong, unsound, desks-unsound}
-use Rattle.station.proofs.Calls.{frame-outcome, letGo-outcome, read-outcome, setUp-outcome, setUp-ten}
+use Rattle.station.proofs.Calls.{frame-outcome, letGo-outcome, read-outcome, told-outcome, setUp-outcome, setUp-ten}
 use Rattle.history.specs.Run.{World, Call, answer, after}
 use Rattle.history.specs.Run.Call.{frame, read, let-go}
-use Rattle.history.specs.Calls.{ByNumber, resultOf, eventCount, reported, Answers, ZerosAfter, SetsUp}
+use Rattle.history.specs.Calls.{ByNumber, resultOf, eventCount, reported, Answers, TellsByNumber, ZerosAfter, SetsUp}
 
 by-number : {A : Type 0} {answer : A → ℕ} {rs : List Reason} {d : A} {f : ℕ → A} {r : A} → Outcome answer rs d f r → ByNumber rs (answer r)
 by-number {answer = answer} {r = r} o =
@@ -68,6 +68,11 @@ module _ (w : World) where
               report = ap (λ (r : LetGo). r .complete) (o .refused h .0);
             };
       }
+
+pub every-telling : (w : World) (k : ℕ) → TellsByNumber w k
+every-telling w k =
+    let o = told-outcome (w .station) k (w .store) in
+    record { number = by-number o; lowest = o .lowest refl; refused = λ h. ap toldValues (o .refused h .0) }
 
 module _ (w : World) (f list : List ℕ) where
   stray-by : Sized (w .station) → Stray (w .station) (w .desks) → (answer w (frame f list) ≡ 1 → ⊥)

@@ -11,9 +11,10 @@ use Rattle.state.specs.Plainly.{Stray}
 use Rattle.state.specs.Decision.{among}
 use Rattle.events.specs.Event.{flat}
 use Rattle.station.specs.SetUp.{setUpGives, setUp}
-use Rattle.station.specs.Files.{fileLetGo, readOut}
+use Rattle.station.specs.declared.Told.{Told as FileTold}
+use Rattle.station.specs.Files.{fileLetGo, readOut, toldOf, toldNumber, toldValues}
 use Rattle.octets.specs.Reasons.{Reason, numbers, applies}
-use Rattle.station.specs.Answers.{setUpSays, frameSays, readSays, letGoSays}
+use Rattle.station.specs.Answers.{setUpSays, frameSays, readSays, letGoSays, toldSays}
 use Rattle.history.specs.Run.{World, Call, frameIn, answer, after}
 use Rattle.history.specs.Run.Call.{frame, read, let-go}
 use Rattle.history.specs.Things.{said}
@@ -68,6 +69,20 @@ pub record Answers (w : World) (c : Call) : Type 0 where
   pub lowest : (n : ℕ) → applies (says w c) n ≡ true → (1 ≤ answer w c) × (answer w c ≤ n)
   -- "A refused call changes .."
   pub refused : (answer w c ≡ 0 → ⊥) → NothingChanged w c
+
+-- what is told of the file in a slot. The call takes the state by value and is lent the store for reading, so it changes nothing, whatever it
+-- answers: it is no `Call` of a run, since a run with it is the run without it
+abbrev pub toldIn : World → ℕ → FileTold
+toldIn w k = toldOf (w .station) (w .store) k
+
+-- what it answers
+pub record TellsByNumber (w : World) (k : ℕ) : Type 0 where
+  pub number : ByNumber (toldSays (w .station) (w .store) k) (toldNumber (toldIn w k))
+  -- "The lowest number that applies is given"
+  pub lowest :
+      (n : ℕ) → applies (toldSays (w .station) (w .store) k) n ≡ true → (1 ≤ toldNumber (toldIn w k)) × (toldNumber (toldIn w k) ≤ n)
+  -- "Every number but 0 carries no other result"
+  pub refused : (toldNumber (toldIn w k) ≡ 0 → ⊥) → toldValues (toldIn w k) ≡ []
 
 -- "2: state not sound": "each desk holds 0 to 8,197 octets, zeros after them". An octet that is not zero there is refused, with any frame
 pub record ZerosAfter (w : World) (f list : List ℕ) : Type 0 where

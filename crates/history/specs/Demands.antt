@@ -15,8 +15,8 @@ use Rattle.state.specs.declared.Slot.{Slot}
 use Rattle.state.specs.Sound.{Sized}
 use Rattle.history.specs.Run.{World, Call, frameIn, answer, run, Start, fresh, SoundWorld}
 use Rattle.history.specs.Run.Call.{frame}
-use Rattle.history.specs.Calls.{Answers, ZerosAfter, SetsUp, Told}
-use Rattle.history.specs.Files.{CameInRun, PacketsRight, HeldExactly, CompleteExactly, ReportsExactly, BlocksHold, FilesCarried, ReadsRefused, PagesCame, NoStrip}
+use Rattle.history.specs.Calls.{Answers, TellsByNumber, ZerosAfter, SetsUp, Told}
+use Rattle.history.specs.Files.{CameInRun, PacketsRight, HeldExactly, CompleteExactly, ReportsExactly, BlocksHold, FilesCarried, ReadsRefused, PagesCame, NoStrip, FactsCame, TellingsRefused, FactsGood}
 use Rattle.history.specs.Sorted.{SortedByChannel, FilesSorted}
 use Rattle.history.specs.Freed.{HeldThen, FreesAtOnce, LetsGo}
 use Rattle.history.specs.Heard.{EveryChannelHeard}
@@ -47,6 +47,8 @@ pub record First : Type 0 where
   -- "every call ends, does nothing undefined and answers by the rules paper's numbers. A refused call changes no octet of desks or store,
   -- no slot and no event."
   pub answers : (w : World) (c : Call) → Answers w c
+  -- so too the call that tells what is known of a file, which can change nothing
+  pub tells : (w : World) (k : ℕ) → TellsByNumber w k
   -- what a table's test cannot leave out unseen: a desk's octets behind those that it holds
   pub zeros-after : (w : World) (f list : List ℕ) → ZerosAfter w f list
   pub sets-up : (craft : ℕ) (channels desks store : List ℕ) → SetsUp craft channels desks store
@@ -86,6 +88,10 @@ pub record Second : Type 0 where
   pub pages : OfEveryRun PagesCame
   -- no "strip of cloud from one picture sewn into another"
   pub no-strip : OfEveryRun NoStrip
+  -- the facts that a catalogue has of a complete file are told as they came, and of no other file (02, 5/14)
+  pub facts : OfEveryRun FactsCame
+  pub untold : EveryRun TellingsRefused
+  pub facts-good : (w : World) → Sized (w .station) → FactsGood w
   -- "and its header records are read to their published meaning or refused by number"
   pub headers : OfEveryRun HeadersRead
 

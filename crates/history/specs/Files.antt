@@ -1,7 +1,7 @@
--- Demand 2: when a file is complete, and that its octets are those its packets carried. Assumes nothing.
+-- Demand 2: when a file is complete, that its octets are those its packets carried, and what is told of it. Assumes nothing.
 use mathlib.Core.Path.{_≡_}
 use mathlib.Core.Bool.{true, false}
-use mathlib.Core.Logic.{_↔_}
+use mathlib.Core.Logic.{_⊎_, _↔_}
 use mathlib.Core.List.{List, [], _∷_, _++_, map, flatten}
 use Prim.Native.Nat.{ℕ, _+_, _/_, _%_, _≤_, _<_}
 use lib.Dec.{eqb}
@@ -10,6 +10,7 @@ use Rattle.octets.specs.Choice.{if_then_else_}
 use Rattle.octets.specs.Number.{part}
 use Rattle.frame.specs.declared.Channel.{Channel}
 use Rattle.packet.specs.Header.{packetOf}
+use Rattle.facts.specs.declared.Facts.{Facts}
 use Rattle.transport.specs.declared.Transport.{Transport}
 use Rattle.transport.specs.Length.{transportOf, octetsOfBits, rest}
 use Rattle.state.specs.declared.Slot.{Slot}
@@ -20,9 +21,10 @@ use Rattle.room.specs.File.{blockOctets, fileOctets}
 use Rattle.events.specs.Event.{at, Among}
 use Rattle.judge.specs.Judge.{dataOf, firstSlot, nextSlot, judged}
 use Rattle.judge.specs.Packets.{Undamaged, Starting, Starts, Following}
+use Rattle.station.specs.declared.Told.the-variants.{Refused, Known}
 use Rattle.history.specs.Run.{World, Call, answer, run, Start, fresh}
 use Rattle.history.specs.Run.Call.{read, let-go}
-use Rattle.history.specs.Calls.{resultOf, reported}
+use Rattle.history.specs.Calls.{resultOf, reported, toldIn}
 use Rattle.history.specs.Things.{Thing, didAll, allThings}
 use Rattle.history.specs.Things.Thing.{packet}
 use Rattle.history.specs.Follow.{follow, added}
@@ -160,3 +162,32 @@ NoStrip x cs =
     → (i : ℕ) → i < length buffer
     → getD (resultOf (run (fresh x) cs) (read k offset buffer)) i 0
     ≡ getD (dataOf (getD (packetsOf m) ((10 + (offset + i)) / 8190) [])) ((10 + (offset + i)) % 8190) 0
+
+-- the facts in the first packet of a file, of the channel that it came on: its application, and "the 64-bit bit length L (octets 2 to 9, after
+-- the 16-bit file counter)"
+abbrev pub factsOf : Channel → List ℕ → Facts
+factsOf c first =
+    record {
+      channel = c;
+      application = packetOf first .application;
+      counter = transportOf (dataOf first) .counter;
+      bits = transportOf (dataOf first) .bits;
+    }
+
+-- "channel 1, application 2, file counter 2, L 8" (02, 5/14): what is told of a complete file is what the first packet accepted for it says
+abbrev pub FactsCame : Start → List Call → Type 0
+FactsCame x cs =
+    (k : ℕ) → k < 32 → (y : Slot) (m : CameInRun x cs k y) → complete y ≡ true → toldIn (run (fresh x) cs) k ≡ Known (factsOf (m .channel) (m .first))
+
+-- and of no other file anything: "11: slot 32 or more, or not held", "12: .. an incomplete file", each exactly then; no other number is given
+pub record TellingRefused (w : World) (k : ℕ) : Type 0 where
+  pub by-11 : (toldIn w k ≡ Refused 11) ↔ ((k < 32) × (held (slotAt (w .station) k) ≡ true) → ⊥)
+  pub by-12 : (toldIn w k ≡ Refused 12) ↔ ((k < 32) × (held (slotAt (w .station) k) ≡ true) × (complete (slotAt (w .station) k) ≡ false))
+  pub no-other : (n : ℕ) → toldIn w k ≡ Refused n → (n ≡ 11) ⊎ (n ≡ 12)
+
+abbrev pub TellingsRefused : World → Type 0
+TellingsRefused w = (k : ℕ) → TellingRefused w k
+
+-- "with channels 0 to 62, applications up to 2015 and L at least 1" (02, 5/14): what is told, from whatever state was handed in, no catalogue refuses
+abbrev pub FactsGood : World → Type 0
+FactsGood w = (k : ℕ) (f : Facts) → toldIn w k ≡ Known f → (f .channel .0 ≤ 62) × (f .application .0 ≤ 2015) × (1 ≤ f .bits)

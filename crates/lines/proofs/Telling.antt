@@ -1,7 +1,7 @@
--- The lines of events, one behind the other, and the three texts of a read. Assumes nothing.
+-- The lines of events, one behind the other, the three texts of a read, and the line of facts that are refused. Assumes nothing.
 use mathlib.Core.Path.{_≡_, refl, sym, ap, subst, _∙_}
 use mathlib.Core.Bool.{Bool, true, false, _&&_}
-use mathlib.Core.List.{List, [], _∷_, _++_, append-nil}
+use mathlib.Core.List.{List, [], _∷_, _++_, append-nil, flatMap}
 use Prim.Native.Nat.{ℕ, suc, _+_, _-_, _*_, _≤_, _<_}
 use native.Mathlib.Nat.{add-zero, sub-zero}
 use native.Mathlib.Omega.{arith}
@@ -13,7 +13,7 @@ use Rattle.octets.specs.Choice.{if_then_else_}
 use Rattle.text.specs.Pieces.{Written, spaced, inHex}
 use Rattle.text.specs.Lines.{newline}
 use Rattle.text.proofs.Following.{Writing, begun, went-on, done}
-use Rattle.lines.specs.Lines.{eventLine, eventLines, octetsRead, readLine}
+use Rattle.lines.specs.Lines.{eventLine, eventLines, answerLine, octetsRead, readLine, toldLine}
 
 -- the lines of the events that are left, from event i on: its own first
 lines-next : (list : List ℕ) (n i : ℕ) → i < n
@@ -75,3 +75,8 @@ module _ (answer : ℕ) (octets : List ℕ) {before after : List ℕ} {at end : 
   some-octets e n w =
       let told : octetsRead answer octets ≡ 0x20 ∷ inHex octets = rw (eq-eqb answer 0 e, ne-eqb (length octets) 0 n) in
       subst (λ (t : List ℕ). Written before at (0x52 ∷ [] ++ spaced answer ++ t ++ newline) after end) (sym told) w
+
+-- where nothing is told the line is a letter and a number
+pub untold : (answer : ℕ) → answerLine 0x49 answer ≡ toldLine answer []
+unfolding flatMap
+untold answer = ap (λ (t : List ℕ). t ++ newline) (sym (append-nil (0x49 ∷ [] ++ spaced answer)))

@@ -1,6 +1,6 @@
 -- Whole lines: of events, of what a trial prints of a call (docs/TRIAL.md), and the last one of a program. Assumes nothing.
 use mathlib.Core.Bool.{Bool, not, _&&_}
-use mathlib.Core.List.{List, [], _∷_, _++_}
+use mathlib.Core.List.{List, [], _∷_, _++_, flatMap}
 use Prim.Native.Nat.{ℕ, zero, suc}
 use lib.Dec.{eqb}
 use lib.ListN.{length, getD, drop}
@@ -44,3 +44,8 @@ report answer complete = if eqb answer 0 then 0x20 ∷ (if complete then 0x31 el
 -- "L answer", and whether the file was complete
 abbrev pub letGoLine : ℕ → Bool → List ℕ
 letGoLine answer complete = 0x4C ∷ [] ++ spaced answer ++ report answer complete ++ newline
+
+-- "I answer", "and after 0 a space and the channel, the application, the file counter and the length L of the file": a number, and the values
+-- that go with it
+abbrev pub toldLine : ℕ → List ℕ → List ℕ
+toldLine answer values = 0x49 ∷ [] ++ spaced answer ++ flatMap spaced values ++ newline

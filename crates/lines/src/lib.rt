@@ -5,9 +5,10 @@
 // that there is room.
 ghost use Prim.Native.Nat.{_+_, _*_, _≤_};
 ghost use mathlib.Core.Path.{_≡_};
+ghost use mathlib.Core.List.{[], _∷_};
 ghost use lib.ListN.{length, getD};
 ghost use Rattle.text.specs.Pieces.{Written};
-ghost use Rattle.lines.specs.Lines.{endLine, eventLine, eventLines, answerLine, frameLines, readLine, report, letGoLine};
+ghost use Rattle.lines.specs.Lines.{endLine, eventLine, eventLines, answerLine, frameLines, readLine, report, letGoLine, toldLine};
 
 fn wide(x: u16) -> u64
     ensures { λ r. ⌜ r ≡ x ⌝ }
@@ -113,4 +114,24 @@ pub fn let_go_line(answer: u8, complete: bool, out: &mut [u8], at: usize) -> usi
     let last = text::with_number(b"L", answer as u64, out, at);
     let end = report(answer, complete, out, last);
     text::line_end(out, end)
+}
+
+// What is told of a file after 0.
+pub fn told_line(
+    channel: u8,
+    application: u16,
+    counter: u16,
+    bits: u64,
+    out: &mut [u8],
+    at: usize,
+) -> usize
+    requires { ⌜ at + 107 ≤ length (now out) ⌝ }
+    ensures { λ r. ⌜ (r ≤ at + 107) × Written (now (out .entry)) at (toldLine 0 (channel ∷ application ∷ counter ∷ bits ∷ [])) (now (out .exit)) r ⌝ }
+{
+    let first = text::with_number(b"I", 0, out, at);
+    let second = text::number(channel as u64, out, first);
+    let third = text::number(application as u64, out, second);
+    let fourth = text::number(counter as u64, out, third);
+    let last = text::number(bits, out, fourth);
+    text::line_end(out, last)
 }

@@ -11,7 +11,7 @@ use lib.Dec.{eqb}
 use lib.ListN.{length, take, drop, getD, length-append, length-take, length-drop}
 use lib.Arith.{digits-lt}
 use lib.Pow.{pow-add, pow-mono, pow-pos, shr-shr, high}
-use lib.Seq.{drop-cons, take-suc, getD-drop, length-take-le}
+use lib.Seq.{drop-cons, drop-drop, take-suc, getD-drop, length-take-le}
 use Rattle.octets.specs.Number.{Octets, part, number, numberAt, bitsAt, roundedUp}
 use Rattle.octets.proofs.Lists.{whole-part, part-part, three-parts, if-cases}
 
@@ -99,6 +99,11 @@ module _ (xs : List ℕ) (at : ℕ) where
 
   pub three-octets : at + 2 < length xs → (getD xs at 0 * 256 + getD xs (at + 1) 0) * 256 + getD xs (at + 2) 0 ≡ numberAt xs at 3
   three-octets h = number-more xs at (getD xs at 0 * 256 + getD xs (at + 1) 0) 2 h (two-octets (omega arith))
+
+-- behind some octets
+pub numberAt-drop : (p : ℕ) (s : List ℕ) (at w : ℕ) → numberAt (drop p s) at w ≡ numberAt s (p + at) w
+unfolding numberAt
+numberAt-drop p s at w = ap (λ (ys : List ℕ). number (take w ys)) (drop-drop at p s)
 
 -- a number in a part is a number in the whole
 pub numberAt-part : (xs : List ℕ) (at n i w : ℕ) → i + w ≤ n → numberAt (part at n xs) i w ≡ numberAt xs (at + i) w

@@ -154,6 +154,13 @@ set-before [] xs a b v l = refl
 set-before (e ∷ es) xs a b v l =
     set-before es (set xs b e) a (suc b) v (omega arith) ∙ ap (λ (ys : List ℕ). sets ys (suc b) es) (set-comm xs b a e v (λ q. omega arith))
 
+-- a run of stores right in front of another that was made before
+pub put-before : (P Q xs : List ℕ) (at q : ℕ) → q ≡ at + length P → put (put xs q Q) at P ≡ put xs at (P ++ Q)
+unfolding put
+put-before [] Q xs at q e = ap (λ (k : ℕ). put xs k Q) (e ∙ add-zero at)
+put-before (p ∷ P) Q xs at q e =
+    ap (λ (ys : List ℕ). put ys (suc at) P) (set-before Q xs at q p (omega arith)) ∙ put-before P Q (set xs at p) (suc at) q (omega arith)
+
 -- a run of stores over the front of another
 pub put-front : (fs es xs : List ℕ) (a : ℕ) → length fs ≤ length es → put (put xs a es) a fs ≡ put xs a (fs ++ drop (length fs) es)
 unfolding put

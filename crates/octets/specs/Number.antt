@@ -1,6 +1,6 @@
 -- "Numbers are unsigned and most significant octet first unless said otherwise." Assumes nothing.
-use mathlib.Core.List.{List, [], _∷_}
-use Prim.Native.Nat.{ℕ, _+_, _-_, _*_, _/_, _%_, _^_, _<_}
+use mathlib.Core.List.{List, [], _∷_, _++_}
+use Prim.Native.Nat.{ℕ, zero, suc, _+_, _-_, _*_, _/_, _%_, _^_, _<_}
 use lib.Dec.{eqb, ltb}
 use lib.ListN.{length, take, drop, getD}
 use lib.IntN.{ℤ, pos, subℕ}
@@ -22,6 +22,11 @@ number (x ∷ xs) = x * 256 ^ length xs + number xs
 -- the number in the `w` octets from place `at` on
 unfoldable pub numberAt : List ℕ → ℕ → ℕ → ℕ
 numberAt xs at w = number (part at w xs)
+
+-- a number in `w` octets
+unfoldable pub inOctets : ℕ → ℕ → List ℕ
+inOctets zero n = []
+inOctets (suc w) n = inOctets w (n / 256) ++ (n % 256 ∷ [])
 
 -- the number in the `w` bits from bit `from` on, the bits counted from the most significant one of the first octet
 unfoldable pub bitsAt : List ℕ → ℕ → ℕ → ℕ

@@ -1,11 +1,11 @@
 // Octets in lent buffers: the numbers in them, most significant octet first, and the moves that every layer above is made of.
 //
-// Promises: a number read is the number that the octets stand for, at every width by one law; a copy and a blank are an equation on the
-// whole buffer, so that nothing outside the stretch named is touched. The callers of this crate show that the stretch is there.
+// Promises: a number read is the number that the octets stand for, at every width by one law; a number stored, a copy and a blank are an
+// equation on the whole buffer, so that nothing outside the stretch named is touched. The callers of this crate show that the stretch is there.
 ghost use mathlib.Core.Path.{_≡_};
 ghost use Prim.Native.Nat.{min, _+_, _*_, _^_, _≤_, _<_};
 ghost use lib.ListN.{length, replicate};
-ghost use Rattle.octets.specs.Number.{numberAt, signed, roundedUp};
+ghost use Rattle.octets.specs.Number.{numberAt, inOctets, signed, roundedUp};
 ghost use Rattle.octets.specs.Buffer.{put};
 
 // The number in the w octets from place at on.
@@ -98,5 +98,19 @@ pub fn blank(dst: &mut [u8], at: usize, n: usize)
     while i < n {
         dst[at + i] = 0;
         i += 1;
+    }
+}
+
+// The number v, in the w octets from place at on.
+pub fn store(dst: &mut [u8], at: usize, w: usize, v: u64)
+    requires { ⌜ at + w ≤ length (now dst) ⌝ }
+    ensures { λ _. ⌜ now (dst .exit) ≡ put (now (dst .entry)) at (inOctets w v) ⌝ }
+{
+    let mut left = v;
+    let mut i = w;
+    while i > 0 {
+        i -= 1;
+        dst[at + i] = (left % 256) as u8;
+        left = left / 256;
     }
 }

@@ -2,3 +2,5 @@
 pub mod Script
 pub mod Pokes
 pub mod Memory
+-- and a script that is read whole, for the programs that have one: docs/STREAM.md and docs/CATALOGUE.md in place of the paper
+pub mod Follow

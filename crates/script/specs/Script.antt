@@ -15,9 +15,9 @@ abbrev pub commandOf : List ℕ → Command
 commandOf xs =
     record { letter = getD xs 0 0; a = getD xs 1 0; b = numberAt xs 2 2; c = numberAt xs 4 4; d = numberAt xs 8 8 }
 
--- the letters of the table that no payload follows and that have no limit: M, L, P, Q, H
+-- the letters of the table that no payload follows and that have no limit: M, L, I, P, Q, H
 abbrev pub alone : ℕ → Bool
-alone x = eqb x 0x4D || eqb x 0x4C || eqb x 0x50 || eqb x 0x51 || eqb x 0x48
+alone x = eqb x 0x4D || eqb x 0x4C || eqb x 0x49 || eqb x 0x50 || eqb x 0x51 || eqb x 0x48
 
 -- "A letter that is not in the table, a limit exceeded .. ends the run"; S: "b channel octets that follow as payload (b up to 64)"; F: "b
 -- event numbers lent (up to 1,200 ..), c octets follow as payload (up to 2,048)"; R: "c octets (up to 16,384)"

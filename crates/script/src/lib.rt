@@ -1,6 +1,6 @@
 // The trial script (docs/TRIAL.md): its commands, what a trial holds beside its buffers, and the commands that set it as they please.
 //
-// Owns Command and Run. Promises: a command is read as the page has it, limits too; M, P and Q change what is held and the two buffers as
+// Owns Command, what comes next of a script that is read whole, and Run. Promises: a command is read as the page has it, limits too; M, P and Q change what is held and the two buffers as
 // specs/Memory.antt has it, and any octet and any field of the state can be set.
 mod pokes;
 
@@ -10,6 +10,7 @@ ghost use mathlib.Core.Path.{_≡_};
 ghost use Prim.Native.Nat.{_≤_};
 ghost use lib.ListN.{length};
 ghost use Rattle.script.specs.Script.{commandOf, alone as aloneOf, payloadOf, countOf};
+ghost use Rattle.script.specs.Follow.{nextBy};
 
 pub struct Command {
     pub letter: u8,
@@ -34,6 +35,30 @@ pub enum Payload {
     Refused,
 }
 
+// What comes next of a script that is read whole: a command with so many octets of payload behind it, or nothing that is carried out.
+pub enum Next {
+    Goes(Command, usize),
+    Ends,
+}
+
+impl Next {
+    // A command where so many octets are left, its own too, and the payload that it asks for.
+    pub fn by(left: usize, x: Command, p: Payload) -> Next
+        requires { ⌜ 16 ≤ left ⌝ }
+        ensures { λ r. ⌜ r ≡ nextBy left x p ⌝ }
+    {
+        match p {
+            Payload::Refused => Next::Ends,
+            Payload::Octets(k) => {
+                if left - Command::SIZE < k {
+                    return Next::Ends;
+                }
+                Next::Goes(x, k)
+            }
+        }
+    }
+}
+
 // Whether a letter is one that no payload follows and that has no limit.
 fn alone(letter: u8) -> bool
     ensures { λ r. ⌜ r ≡ aloneOf letter ⌝ }
@@ -42,6 +67,9 @@ fn alone(letter: u8) -> bool
         return true;
     }
     if letter == b'L' {
+        return true;
+    }
+    if letter == b'I' {
         return true;
     }
     if letter == b'P' {

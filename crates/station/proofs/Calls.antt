@@ -36,14 +36,16 @@ use Rattle.room.specs.Move.{letGo}
 use Rattle.room.specs.File.{fileOctets}
 use Rattle.room.proofs.Keeps.{refiled-sized, refiled-desks, letGo-refiles, letGo-sound}
 use Rattle.station.specs.SetUp.{SetUpOutcome, setUpGives, desksFit, wholeBlocks, freshStation, setUp}
-use Rattle.station.specs.Files.{isHeld, asked, freed, kept, letGoAs, fileLetGo, ReadOutcome, readGives, storeFits, within, readAs, readOut}
+use Rattle.station.specs.Files.{isHeld, asked, freed, kept, letGoAs, fileLetGo, ReadOutcome, readGives, storeFits, within, readAs, readOut, factsIn, toldAs, toldOf, toldNumber}
 use Rattle.station.specs.declared.LetGo.{LetGo}
 use Rattle.station.specs.declared.Asked.{Asked}
 use Rattle.station.specs.declared.Asked.the-variants as asks
 use Rattle.station.specs.declared.Asked.the-variants.{Complete, Incomplete}
+use Rattle.station.specs.declared.Told.the-variants as told
+use Rattle.station.specs.declared.Told.the-variants.{Known}
 use Rattle.station.specs.Frame.{FrameOutcome, frameGives, admitted, taken, examinedFrame, framed}
 use Rattle.octets.specs.Reasons.{Reason, decided, applies}
-use Rattle.station.specs.Answers.{SoundWithMemory, setUpSays, slotSays, letGoSays, readSays, frameHeaderSays, frameSays, seat, acceptedAs, walkedAs}
+use Rattle.station.specs.Answers.{SoundWithMemory, setUpSays, slotSays, letGoSays, readSays, toldSays, frameHeaderSays, frameSays, seat, acceptedAs, walkedAs}
 use Rattle.octets.specs.Reasons.Reason.{_when_}
 use Rattle.station.proofs.Asking.{complete-held}
 use Rattle.octets.proofs.Reasons.{None}
@@ -83,6 +85,11 @@ module _ (s : Station) (k : ℕ) where
       let fits = storeFits (s .blocks) store in
       let inside = within (octetsOfBits (slotAt s k .bits)) offset (length buffer) in
       rw (asked-is (readAs s store offset buffer) s k, if-not fits, if-not (complete (slotAt s k)), if-not inside)
+
+  pub told-is : (store : List ℕ) → toldOf s store k ≡ decided (toldSays s store k) (Known (factsIn s store k)) told.Refused
+  unfolding toldOf toldAs
+  told-is store =
+      rw (asked-is (toldAs s store) s k, if-not (storeFits (s .blocks) store), if-not (complete (slotAt s k)))
 
 -- a channel has a desk exactly if it is named
 abbrev hasSeat : Watch → Bool
@@ -144,6 +151,10 @@ module _ (s : Station) (k : ℕ) where
   read-outcome store offset buffer =
       rw (read-is s k store offset buffer) (outcome _ (readSays s store k offset (length buffer)) _ _ refl (λ n. refl) refl)
 
+  pub told-outcome : (store : List ℕ) → Outcome toldNumber (toldSays s store k) (Known (factsIn s store k)) told.Refused (toldOf s store k)
+  unfolding among
+  told-outcome store = rw (told-is s k store) (outcome _ (toldSays s store k) _ _ refl (λ n. refl) refl)
+
 pub setUp-outcome : (craft : ℕ) (channels desks store : List ℕ) → Outcome (λ (r : SetUpOutcome). r .answer) (setUpSays channels desks store)
     (setUpGives 0 (freshStation craft channels (length store / 8190)) (replicate (length desks) 0)) (λ (n : ℕ). setUpGives n allZeroState desks)
     (setUp craft channels desks store)
@@ -166,6 +177,9 @@ module _ (s : Station) (k : ℕ) where
       → among (readOut s store k offset buffer .answer) (0 ∷ 1 ∷ 2 ∷ 11 ∷ 12 ∷ 14 ∷ []) ≡ true
   read-answers store offset buffer = read-outcome s k store offset buffer .one-of
 
+  pub told-answers : (store : List ℕ) → among (toldNumber (toldOf s store k)) (0 ∷ 1 ∷ 2 ∷ 11 ∷ 12 ∷ []) ≡ true
+  told-answers store = told-outcome s k store .one-of
+
 pub setUp-answers : (craft : ℕ) (channels desks store : List ℕ) → among (setUp craft channels desks store .answer) (0 ∷ 10 ∷ 1 ∷ []) ≡ true
 setUp-answers craft channels desks store = setUp-outcome craft channels desks store .one-of
 
@@ -181,6 +195,10 @@ module _ (s : Station) (k : ℕ) where
   pub read-lowest : (store : List ℕ) (offset : ℕ) (buffer : List ℕ) (n : ℕ) → applies (readSays s store k offset (length buffer)) n ≡ true
       → (1 ≤ readOut s store k offset buffer .answer) × (readOut s store k offset buffer .answer ≤ n)
   read-lowest store offset buffer = read-outcome s k store offset buffer .lowest refl
+
+  pub told-lowest : (store : List ℕ) (n : ℕ) → applies (toldSays s store k) n ≡ true
+      → (1 ≤ toldNumber (toldOf s store k)) × (toldNumber (toldOf s store k) ≤ n)
+  told-lowest store = told-outcome s k store .lowest refl
 
 pub frame-lowest : (s : Station) (desks store list f : List ℕ) (n : ℕ) → applies (frameSays s desks store list f) n ≡ true
     → (1 ≤ framed s desks store list f .answer) × (framed s desks store list f .answer ≤ n)
@@ -233,6 +251,20 @@ module _ (s : Station) (k : ℕ) where
         λ (f, sound, low, w, i). o .1 (rw f, a .1 (sound, low, complete-held (slotAt s k) w, (rw w, (rw i, tt)))),
       )
 
+  pub told-zero : (store : List ℕ) → (toldNumber (toldOf s store k) ≡ 0)
+      ↔ ((storeFits (s .blocks) store ≡ true) × (isSound s ≡ true) × (k < 32) × (complete (slotAt s k) ≡ true))
+  told-zero store =
+      let o = told-outcome s k store .zero in
+      let fits = storeFits (s .blocks) store in
+      let whole = complete (slotAt s k) in
+      let a = asked-exactly s k ((12 when not whole) ∷ []) in (
+        λ e.
+            let (f, g) = o .0 e in
+            let (sound, low, here, (w, u)) = a .0 g in
+            (not-false fits f, sound, low, not-false whole w),
+        λ (f, sound, low, w). o .1 (rw f, a .1 (sound, low, complete-held (slotAt s k) w, (rw w, tt))),
+      )
+
 pub setUp-zero : (craft : ℕ) (channels desks store : List ℕ) → (setUp craft channels desks store .answer ≡ 0)
     ↔ ((goodChannels channels ≡ true) × (desksFit (length channels) desks ≡ true) × (wholeBlocks store ≡ true))
 setUp-zero craft channels desks store =
@@ -256,6 +288,9 @@ module _ (s : Station) (k : ℕ) (sound : isSound s ≡ true) where
 
   pub read-never-2 : (store : List ℕ) (offset : ℕ) (buffer : List ℕ) → readOut s store k offset buffer .answer ≡ 2 → ⊥
   read-never-2 store offset buffer = never (read-outcome s k store offset buffer) 2 (omega arith) (rw sound)
+
+  pub told-never-2 : (store : List ℕ) → toldNumber (toldOf s store k) ≡ 2 → ⊥
+  told-never-2 store = never (told-outcome s k store) 2 (omega arith) (rw sound)
 
 -- letting a file go keeps it
 module _ (s : Station) (k : ℕ) where

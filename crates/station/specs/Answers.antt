@@ -44,6 +44,10 @@ readSays s store k offset n =
     ∷ slotSays s k
     ((12 when not (complete (slotAt s k))) ∷ (14 when not (within (octetsOfBits (slotAt s k .bits)) offset n)) ∷ [])
 
+-- the facts of a file
+abbrev pub toldSays : Station → List ℕ → ℕ → List Reason
+toldSays s store k = (1 when not (storeFits (s .blocks) store)) ∷ slotSays s k ((12 when not (complete (slotAt s k))) ∷ [])
+
 -- a frame whose header, derandomised, is h; the pointer has 11 bits
 abbrev pub frameHeaderSays : Station → Frame → List Reason
 frameHeaderSays s h =

@@ -1,21 +1,26 @@
--- A file read, and let go. Assumes nothing.
+-- A file read, told of, and let go. Assumes nothing.
 use mathlib.Core.Bool.{Bool, true, false, not, _&&_}
-use mathlib.Core.List.{List}
+use mathlib.Core.List.{List, [], _∷_}
 use Prim.Native.Nat.{ℕ, _-_, _*_}
 use lib.Dec.{leb, ltb, eqb}
 use lib.ListN.{length}
 use Rattle.octets.specs.Choice.{if_then_else_}
 use Rattle.octets.specs.Number.{part}
-use Rattle.transport.specs.Length.{octetsOfBits}
+use Rattle.facts.specs.declared.Facts.{Facts}
+use Rattle.transport.specs.Length.{transportOf, octetsOfBits}
 use Rattle.state.specs.declared.Station.{Station}
 use Rattle.state.specs.Slots.{slotAt, held, complete}
+use Rattle.state.specs.Blocks.{blocksOf}
 use Rattle.state.specs.Decision.{isSound}
 use Rattle.room.specs.Move.{letGo}
-use Rattle.room.specs.File.{fileOctets}
+use Rattle.room.specs.File.{joined, fileOctets}
 use Rattle.station.specs.declared.Answered.{Answered}
 use Rattle.station.specs.declared.LetGo.{LetGo}
 use Rattle.station.specs.declared.Asked.{Asked}
 use Rattle.station.specs.declared.Asked.the-variants.{Refused, Complete, Incomplete}
+use Rattle.station.specs.declared.Told.{Told}
+use Rattle.station.specs.declared.Told.the-variants as told
+use Rattle.station.specs.declared.Told.the-variants.{Known}
 
 abbrev pub answered : ℕ → Station → Answered
 answered n s = record { answer = n; station = s }
@@ -78,3 +83,38 @@ readAs s store offset buffer (Complete k) =
 unfoldable pub readOut : Station → List ℕ → ℕ → ℕ → List ℕ → ReadOutcome
 readOut s store k offset buffer =
     if storeFits (s .blocks) store then readAs s store offset buffer (asked s k) else readGives 1 buffer
+
+-- "the 16-bit file counter": the first two of the ten transport octets, with which the blocks of the file begin
+unfoldable pub counterIn : Station → List ℕ → ℕ → ℕ
+counterIn s store k = transportOf (joined store (blocksOf s k)) .counter
+
+-- what a catalogue has of the file in slot k beside what its header says: "channel 1, application 2, file counter 2, L 8" (02, 5/14). The slot
+-- has all of it but the counter
+unfoldable pub factsIn : Station → List ℕ → ℕ → Facts
+factsIn s store k =
+    record {
+      channel = slotAt s k .channel;
+      application = slotAt s k .application;
+      counter = counterIn s store k;
+      bits = slotAt s k .bits;
+    }
+
+-- the facts of a complete file; an incomplete one is refused as a read of it is: "12: read .. of an incomplete file"
+unfoldable pub toldAs : Station → List ℕ → Asked → Told
+toldAs s store (Refused n) = told.Refused n
+toldAs s store (Incomplete k) = told.Refused 12
+toldAs s store (Complete k) = Known (factsIn s store k)
+
+-- it is lent the store, as a read is; state and store stay, for they are taken by value and lent for reading
+unfoldable pub toldOf : Station → List ℕ → ℕ → Told
+toldOf s store k = if storeFits (s .blocks) store then toldAs s store (asked s k) else told.Refused 1
+
+-- "a definition gives this paper's number and values for each of the enum's cases": the number
+abbrev pub toldNumber : Told → ℕ
+toldNumber (told.Refused n) = n
+toldNumber (Known f) = 0
+
+-- and the values: "Every number but 0 carries no other result"
+abbrev pub toldValues : Told → List ℕ
+toldValues (told.Refused n) = []
+toldValues (Known f) = f .channel .0 ∷ f .application .0 ∷ f .counter ∷ f .bits ∷ []

@@ -2,6 +2,7 @@
 //
 // A state goes in by value and comes back by value; desks, store, event list and buffers are lent. No call asks anything of what comes in.
 // Each contract is one equation between everything that comes out and a definition in specs/ of what came in.
+use facts::Facts;
 use frame::Channel;
 use frame::CheckedChannel;
 use state::Desk;
@@ -35,6 +36,12 @@ pub enum Asked {
     Refused(u8),
     Complete(usize),
     Incomplete(usize),
+}
+
+// What a call tells of the file in a slot: a number of the paper, or what is known of it.
+pub enum Told {
+    Refused(u8),
+    Known(Facts),
 }
 
 fn say(answer: u8, station: Station) -> Answered

@@ -5,11 +5,11 @@ use Prim.Native.Nat.{ℕ, suc, _+_, _*_, _/_, _%_, _≤_, _<_}
 use native.Mathlib.Nat.{add-zero, add-assoc}
 use native.Mathlib.Numerals.{add-one}
 use native.Mathlib.Omega.{arith}
-use lib.ListN.{length, set, getD, drop, length-append, length-set, drop-of-length-le}
+use lib.ListN.{length, set, getD, take, drop, length-append, length-set, drop-of-length-le}
 use lib.Seq.{drop-cons}
 use Rattle.io.specs.Digits.{digits, glyph}
 use Rattle.octets.specs.Buffer.{put}
-use Rattle.octets.proofs.Put.{put-put, put-nil}
+use Rattle.octets.proofs.Put.{put-put, put-nil, part-put-in}
 use Rattle.text.specs.Pieces.{Written, inHex}
 
 pub behind : {before middle after p q : List ℕ} {at between end : ℕ} → Written before at p middle between
@@ -20,6 +20,12 @@ behind {before = before} {p = p} {q = q} {at = at} u w =
 -- nothing put anywhere
 pub nothing : (before : List ℕ) (at : ℕ) → Written before at [] before at
 nothing before at = record { holds = sym (put-nil before at); ends = sym (add-zero at) }
+
+-- what was put at the start of a buffer with room for it stands there
+pub at-front : {before piece after : List ℕ} {end : ℕ} → Written before 0 piece after end → end ≤ length before → take end after ≡ piece
+at-front {before} {piece} {after} {end} w h =
+    let size : end ≡ length piece = omega (arith, w .ends) in
+    ap (λ (k : ℕ). take k after) size ∙ ap (λ (xs : List ℕ). take (length piece) xs) (w .holds) ∙ part-put-in piece before 0 (omega (arith, size))
 
 -- an octet alone
 pub octet : (before : List ℕ) (at x : ℕ) → Written before at (x ∷ []) (set before at x) (at + 1)

@@ -1,12 +1,16 @@
-//! Input of one kind, by which the cost of a frame, of a decision of soundness, of a file let go, or of an
-//! octet hunted through is counted. Asked for more frames or calls, each only goes on.
+//! Input of one kind, by which the cost of a frame, of a decision of soundness, of a file let go, of an
+//! octet hunted through, or of a file entered is counted. Asked for more frames or calls, each only goes on.
 
 use std::io::Write;
 
 use crate::makers::chance::Chance;
+use crate::makers::clerk_script::ClerkScript;
 use crate::makers::make::{self, File, PacketFields};
+use crate::makers::make_catalogue::greatest;
 use crate::makers::raw;
 use crate::makers::script::{Field, Held, Script};
+use crate::model::catalogue;
+use crate::model::clerk::BUFFER_SIZE;
 use crate::model::frame::{self, Channel, MARKER, ZONE_SIZE};
 use crate::model::packet::{Application, Flags};
 use crate::model::transport::{BLOCK_SIZE, HEADER_SIZE};
@@ -33,6 +37,9 @@ pub fn run(name: &str, size: usize, out: &mut dyn Write) -> bool {
         "abandoned-64" => with_calls(held(64), size, abandoning),
         "raw-step" => in_step(size),
         "raw-noise" => raw::quiet(&mut Chance::new(LOAD_SEED), size * frame::SIZE),
+        "enter" => nearly_full(size, |script| script.enter_listed(&greatest()[1023])),
+        "enter-none" => nearly_full(size, |_| {}),
+        "judge" => judged(size),
         _ => return false,
     };
     let _ = out.write_all(&octets);
@@ -173,4 +180,32 @@ fn in_step(frames: usize) -> Vec<u8> {
     (0..frames)
         .flat_map(|_| raw::frame_behind(&MARKER, &mut chance))
         .collect()
+}
+
+/// A clerk script: the catalogue of 1,023 files, all with images, on 63 channels, put into a buffer that is
+/// lent whole.
+fn put_nearly_full(script: &mut ClerkScript) {
+    let stored = catalogue::written(&greatest()[..1023]);
+    script.write(&stored);
+    script.lend(BUFFER_SIZE, stored.len() as u64);
+}
+
+/// That so often, each time with some commands behind it.
+fn nearly_full(times: usize, commands: impl Fn(&mut ClerkScript)) -> Vec<u8> {
+    let mut script = ClerkScript::new();
+    for _ in 0..times {
+        put_nearly_full(&mut script);
+        commands(&mut script);
+    }
+    script.octets
+}
+
+/// That once, and then so many reads.
+fn judged(times: usize) -> Vec<u8> {
+    let mut script = ClerkScript::new();
+    put_nearly_full(&mut script);
+    for _ in 0..times {
+        script.judge();
+    }
+    script.octets
 }

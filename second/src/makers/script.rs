@@ -148,6 +148,11 @@ impl Script {
         self.command(b'L', 0, slot, 0, 0);
     }
 
+    /// The facts of the file of a slot.
+    pub fn facts(&mut self, slot: u16) {
+        self.command(b'I', 0, slot, 0, 0);
+    }
+
     pub fn poke_desks(&mut self, index: usize, octet: u8) {
         self.command(b'P', 0, u16::from(octet), 0, index as u64);
     }

@@ -1,7 +1,9 @@
 //! What the receiver must do, and what its programs must print.
 
 pub mod bits;
+pub mod catalogue;
 pub mod chase;
+pub mod clerk;
 pub mod crc;
 pub mod events;
 pub mod files;
@@ -9,6 +11,7 @@ pub mod frame;
 pub mod hunt;
 pub mod noise;
 pub mod packet;
+pub mod printout;
 pub mod program;
 pub mod records;
 pub mod sound;

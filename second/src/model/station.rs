@@ -1,5 +1,6 @@
 //! The station's state and its calls: 01, The station, and the table of answers.
 
+use crate::model::bits::Fields;
 use crate::model::frame::{self, Channel, Start};
 use crate::model::packet::Application;
 use crate::model::sound;
@@ -269,17 +270,9 @@ fn held_slot(state: &State, slot: usize) -> Result<usize, Refusal> {
     }
 }
 
-/// "A read copies file octets from a given offset (the ten transport octets don't count) to
-/// fill a lent buffer; length 0 at the very end is allowed." The file's end has L/8 rounded up
-/// (02, 2/14): the bits that fill up its last octet are read as they came (O56). "12 stays for
-/// reads" (02, 3/14).
-pub fn read(
-    state: &State,
-    store: &[u8],
-    slot: usize,
-    offset: u64,
-    buffer: &mut [u8],
-) -> Result<(), Refusal> {
+/// Refusals 1, 2, 11 and 12, which a read and the facts of a file share: "12 stays for reads" (02,
+/// 3/14), and both are lent the store.
+fn complete_slot(state: &State, store: &[u8], slot: usize) -> Result<usize, Refusal> {
     if !store_fits(state, store) {
         return Err(Refusal::Memory);
     }
@@ -287,6 +280,20 @@ pub fn read(
     if state.slots[slot].is_incomplete() {
         return Err(Refusal::Incomplete);
     }
+    Ok(slot)
+}
+
+/// "A read copies file octets from a given offset (the ten transport octets don't count) to
+/// fill a lent buffer; length 0 at the very end is allowed." The file's end has L/8 rounded up
+/// (02, 2/14): the bits that fill up its last octet are read as they came (O56).
+pub fn read(
+    state: &State,
+    store: &[u8],
+    slot: usize,
+    offset: u64,
+    buffer: &mut [u8],
+) -> Result<(), Refusal> {
+    let slot = complete_slot(state, store, slot)?;
     let end = u128::from(offset) + buffer.len() as u128;
     if end > transport::file_octets(state.slots[slot].length) {
         return Err(Refusal::PastEnd);
@@ -295,6 +302,31 @@ pub fn read(
     let from = transport::HEADER_SIZE + offset as usize;
     buffer.copy_from_slice(&file[from..from + buffer.len()]);
     Ok(())
+}
+
+/// What the catalogue keeps of a complete file (02, 5/14): "channel 1, application 2, file counter
+/// 2, L 8".
+#[derive(Clone, Debug, PartialEq, Eq)]
+pub struct Facts {
+    pub channel: Channel,
+    pub application: Application,
+    pub counter: u16,
+    pub length: u64,
+}
+
+/// The facts of a complete file. Channel, application and L are in the state; the "16-bit file
+/// counter" stands before L (01, Packets), so in the first two octets of the file's first block.
+pub fn facts(state: &State, store: &[u8], slot: usize) -> Result<Facts, Refusal> {
+    let slot = complete_slot(state, store, slot)?;
+    let first = state.blocks_of(slot)[0] * BLOCK_SIZE;
+    let counter = Fields::of(&store[first..first + 2]).cut(16);
+    let file = &state.slots[slot];
+    Ok(Facts {
+        channel: file.channel,
+        application: file.application,
+        counter: counter as u16,
+        length: file.length,
+    })
 }
 
 /// The blocks of a slot one after the other, in the order of their places.

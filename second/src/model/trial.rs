@@ -7,7 +7,7 @@ use crate::model::crc;
 use crate::model::frame::Channel;
 use crate::model::packet::Application;
 use crate::model::program::write_events;
-use crate::model::station::{self, Desk, Slot, State, DESK_SIZE};
+use crate::model::station::{self, Desk, Facts, Slot, State, DESK_SIZE};
 use crate::model::transport::BLOCK_SIZE;
 use crate::model::vectors::hexadecimal;
 
@@ -49,7 +49,7 @@ impl Command {
             b'S' => (b <= MOST_CHANNEL_OCTETS).then_some(b),
             b'F' => (b <= MOST_EVENT_NUMBERS && c <= MOST_FRAME_OCTETS).then_some(c),
             b'R' => (c <= MOST_READ_OCTETS).then_some(0),
-            b'M' | b'L' | b'P' | b'Q' | b'H' => Some(0),
+            b'M' | b'L' | b'P' | b'I' | b'Q' | b'H' => Some(0),
             _ => None,
         }
     }
@@ -130,6 +130,7 @@ impl Trial {
             b'F' => self.frame(command, payload, out),
             b'R' => self.read(command, out),
             b'L' => self.let_go(command, out),
+            b'I' => self.facts(command, out),
             b'P' => self.poke_memory(command),
             b'Q' => poke_state(&mut self.state, command),
             _ => self.show(out),
@@ -181,6 +182,17 @@ impl Trial {
         };
     }
 
+    /// "`I answer`, and after 0 a space and the channel, the application, the file counter and the
+    /// length L of the file"
+    fn facts(&self, command: &Command, out: &mut dyn Write) {
+        let store = &self.store[..self.store_lent];
+        let answer = station::facts(&self.state, store, usize::from(command.b));
+        let _ = match &answer {
+            Ok(facts) => writeln!(out, "I 0 {}", facts_words(facts)),
+            Err(_) => writeln!(out, "I {}", station::number(&answer)),
+        };
+    }
+
     fn poke_memory(&mut self, command: &Command) {
         let memory = match command.a {
             0 => &mut self.desks,
@@ -206,6 +218,11 @@ impl Trial {
             let _ = writeln!(out, "{}", desk_line(*channel, desk));
         }
     }
+}
+
+fn facts_words(facts: &Facts) -> String {
+    let (channel, application) = (facts.channel.0, facts.application.0);
+    format!("{channel} {application} {} {}", facts.counter, facts.length)
 }
 
 /// `T slot channel application length count accepted`, and the blocks of the slot.

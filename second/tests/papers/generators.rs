@@ -29,6 +29,19 @@ fn cases_have_names_of_their_own_and_reset_what_they_need() {
     }
 }
 
+/// What was stored before the facts of a file could be asked for is printed as before.
+#[test]
+fn cases_of_facts_stand_behind_the_others_and_before_the_ends() {
+    let names: Vec<&str> = cases::all().iter().map(|case| case.name).collect();
+    let part = |name: &&str| match name {
+        name if name.starts_with("end-") => 2,
+        name if name.starts_with("facts-") => 1,
+        _ => 0,
+    };
+    assert!(names.iter().map(part).is_sorted());
+    assert!(names.iter().filter(|name| part(name) == 1).count() > 9);
+}
+
 #[test]
 fn cases_run_to_their_end_but_for_those_that_end_the_run() {
     let mut all = Vec::new();
@@ -57,18 +70,19 @@ fn kinds(out: &str) -> impl Iterator<Item = String> + '_ {
         let mut words = line.split(' ');
         match (words.next()?, words.next()?) {
             ("L", _) => Some(line.to_string()),
-            (letter @ ("S" | "F" | "R" | "E"), number) => Some(format!("{letter} {number}")),
+            (letter @ ("S" | "F" | "R" | "I" | "E"), number) => Some(format!("{letter} {number}")),
             _ => None,
         }
     })
 }
 
-/// All answers and events of 01 and 02, 3/14, as `kinds` gives them.
+/// All answers and events of 01 and 02, 3/14 and 5/14, as `kinds` gives them.
 fn answers_and_events() -> BTreeSet<String> {
     let numbers = [
         ("S", vec![0, 1, 10]),
         ("F", (0..=9).collect()),
         ("R", vec![0, 1, 2, 11, 12, 14]),
+        ("I", vec![0, 1, 2, 11, 12]),
         ("L", vec![2, 11]),
         ("E", (1..=13).collect()),
     ];
@@ -112,6 +126,25 @@ fn random_scripts_let_files_go_of_every_kind() {
     }
 }
 
+/// How often each answer is met where the facts of a file are asked for.
+#[test]
+fn random_scripts_ask_for_facts_of_every_kind() {
+    let outs = (1..=16).map(|seed| tried(&made(random::run, seed, 600)));
+    let lines: Vec<String> = outs
+        .flat_map(|out| kinds(&out).collect::<Vec<_>>())
+        .collect();
+    for (line, least) in [
+        ("I 0", 100),
+        ("I 1", 5),
+        ("I 2", 20),
+        ("I 11", 40),
+        ("I 12", 4),
+    ] {
+        let met = lines.iter().filter(|met| *met == line).count();
+        assert!(met >= least, "{line}: {met}");
+    }
+}
+
 /// The letter where a script's run ends, none where it is carried out to its end or a command is
 /// cut short.
 fn letter_of_the_end(script: &[u8]) -> Option<u8> {
@@ -138,7 +171,7 @@ fn random_scripts_have_unknown_letters_at_their_end_alone() {
         letters.extend(letter_of_the_end(&script));
     }
     assert!(letters.len() >= 3 && letters.contains(&b'D'), "{letters:?}");
-    assert!(letters.iter().all(|letter| !b"MSFRLPQH".contains(letter)));
+    assert!(letters.iter().all(|letter| !b"MSFRLIPQH".contains(letter)));
 }
 
 /// Of some files a quarter to a third have a length that is no multiple of 8, or nearly so many,

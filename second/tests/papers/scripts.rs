@@ -142,6 +142,8 @@ fn the_example_frame_tried() {
         command(b'R', 0, 0, 1, 0, &[]),
         command(b'R', 0, 0, 0, 1, &[]),
         command(b'R', 0, 0, 1, 1, &[]),
+        command(b'I', 7, 0, 7, 7, &[]),
+        command(b'I', 0, 32, 0, 0, &[]),
         command(b'L', 0, 32, 0, 0, &[]),
         command(b'L', 0, 0, 0, 0, &[]),
         command(b'L', 0, 0, 0, 0, &[]),
@@ -153,7 +155,7 @@ fn the_example_frame_tried() {
     );
     let expected = format!(
         "S 0\nF 0 2\nE 10 5 0\nE 12 5 0\nH {desks} {store}\nT 0 2 5 8 0 1 0\nK 0 0 0 0\n\
-         K 1 0 0 0\nK 2 0 1 0\nK 3 0 0 0\nR 0 00\nR 0\nR 14\nL 11\nL 0 1\nL 11\nEND 10 0\n"
+         K 1 0 0 0\nK 2 0 1 0\nK 3 0 0 0\nR 0 00\nR 0\nR 14\nI 0 2 5 0 8\nI 11\nL 11\nL 0 1\nL 11\nEND 12 0\n"
     );
     assert_eq!(out, expected);
 }

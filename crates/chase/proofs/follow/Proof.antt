@@ -5,20 +5,21 @@ use native.Mathlib.Omega.{arith}
 use borrow.Author.Needs.{needs}
 use lib.ListN.{length}
 use Rattle.stream.specs.Hunter.{noHunter}
-use Rattle.chase.specs.Calls.{memory}
-use Rattle.chase.proofs.Chasing.{Chasing, chasing-none, chasing-ends, chasing-all, chasing-there, chasing-said, chasing-more}
+use Rattle.chase.specs.Calls.{memory, carriedOut}
+use Rattle.script.proofs.Following.{Following, following-none, following-ends, following-all, following-there, following-said, following-more}
+use Rattle.chase.specs.Script.{payloadOf}
 use Rattle.chase.proofs.follow.Statement.{statement}
 use Rattle.chase.proofs.follow.Tie as tie
 
 abbrev Inv-loop : tie.InvT-loop
 Inv-loop script buffer₀ out₀ h₀ n₀ at₀ buffer out h n at =
-    Chasing (memory noHunter buffer₀) script (memory h buffer) n at × (length buffer ≡ 2048) × (length out ≡ 86)
+    Following payloadOf carriedOut (memory noHunter buffer₀) script (memory h buffer) n at × (length buffer ≡ 2048) × (length out ≡ 86)
 
 abbrev μ-loop : tie.MeasureT-loop
 μ-loop script buffer₀ out₀ h₀ n₀ at₀ buffer out h n at = length script - at
 
 loop-holds : tie.Need-loop-holds Inv-loop μ-loop
-loop-holds c = (chasing-none _ _, search needs, search needs)
+loop-holds c = (following-none _ _ _ _, search needs, search needs)
 
 fetch-requires : tie.Need-fetch-requires Inv-loop μ-loop
 fetch-requires c κs = search needs
@@ -36,37 +37,37 @@ same-length-2 : tie.Need-same-length-2 Inv-loop μ-loop
 same-length-2 c = search needs
 
 returns : tie.Need-returns Inv-loop μ-loop
-returns c = chasing-ends (c .before .before .before .before .loop .inv .0) refl (sym (c .before .before .fetch .ensures) ∙ c .enum-told .given .1)
+returns c = following-ends (c .before .before .before .before .loop .inv .0) refl (sym (c .before .before .fetch .ensures) ∙ c .enum-told .given .1)
 
 enum-known-next : tie.Need-enum-known-next Inv-loop μ-loop
 enum-known-next c = search needs
 
 add-from : tie.Need-add-from Inv-loop μ-loop
-add-from c = omega (arith, chasing-there (c .before .before .before .before .before .loop .inv .0) (sym (c .before .before .before .fetch .ensures) ∙ c .before .next .given .1))
+add-from c = omega (arith, following-there (c .before .before .before .before .before .loop .inv .0) (sym (c .before .before .before .fetch .ensures) ∙ c .before .next .given .1))
 
 add-to : tie.Need-add-to Inv-loop μ-loop
-add-to c = omega (arith, chasing-there (c .before .before .before .before .before .loop .inv .0) (sym (c .before .before .before .fetch .ensures) ∙ c .before .next .given .1))
+add-to c = omega (arith, following-there (c .before .before .before .before .before .loop .inv .0) (sym (c .before .before .before .fetch .ensures) ∙ c .before .next .given .1))
 
 sub-obey : tie.Need-sub-obey Inv-loop μ-loop
-sub-obey c = omega (arith, chasing-there (c .before .before .before .before .before .loop .inv .0) (sym (c .before .before .before .fetch .ensures) ∙ c .before .next .given .1))
+sub-obey c = omega (arith, following-there (c .before .before .before .before .before .loop .inv .0) (sym (c .before .before .before .fetch .ensures) ∙ c .before .next .given .1))
 
 part-obey-start : tie.Need-part-obey-start Inv-loop μ-loop
-part-obey-start c = omega (arith, chasing-there (c .before .before .before .before .before .loop .inv .0) (sym (c .before .before .before .fetch .ensures) ∙ c .before .next .given .1))
+part-obey-start c = omega (arith, following-there (c .before .before .before .before .before .loop .inv .0) (sym (c .before .before .before .fetch .ensures) ∙ c .before .next .given .1))
 
 part-obey-end : tie.Need-part-obey-end Inv-loop μ-loop
-part-obey-end c = omega (arith, chasing-there (c .before .before .before .before .before .loop .inv .0) (sym (c .before .before .before .fetch .ensures) ∙ c .before .next .given .1))
+part-obey-end c = omega (arith, following-there (c .before .before .before .before .before .loop .inv .0) (sym (c .before .before .before .fetch .ensures) ∙ c .before .next .given .1))
 
 obey-requires : tie.Need-obey-requires Inv-loop μ-loop
-obey-requires c κs = (search needs, search needs, chasing-said (c .before .before .before .before .before .before .before .before .loop .inv .0) (sym (c .before .before .before .before .before .before .fetch .ensures) ∙ c .before .before .before .before .next .given .1))
+obey-requires c κs = (search needs, search needs, following-said (c .before .before .before .before .before .before .before .before .loop .inv .0) (sym (c .before .before .before .before .before .before .fetch .ensures) ∙ c .before .before .before .before .next .given .1))
 
 add-n : tie.Need-add-n Inv-loop μ-loop
-add-n c = omega (arith, c .before .before .before .before .before .before .before .before .before .before .before .before .before .loop .inv .0 .few, chasing-there (c .before .before .before .before .before .before .before .before .before .before .before .before .before .loop .inv .0) (sym (c .before .before .before .before .before .before .before .before .before .before .before .fetch .ensures) ∙ c .before .before .before .before .before .before .before .before .before .next .given .1))
+add-n c = omega (arith, c .before .before .before .before .before .before .before .before .before .before .before .before .before .loop .inv .0 .few, following-there (c .before .before .before .before .before .before .before .before .before .before .before .before .before .loop .inv .0) (sym (c .before .before .before .before .before .before .before .before .before .before .before .fetch .ensures) ∙ c .before .before .before .before .before .before .before .before .before .next .given .1))
 
 loop-less : tie.Need-loop-less Inv-loop μ-loop
-loop-less c = omega (arith, chasing-there (c .before .before .before .before .before .before .before .before .before .before .before .before .before .loop .inv .0) (sym (c .before .before .before .before .before .before .before .before .before .before .before .fetch .ensures) ∙ c .before .before .before .before .before .before .before .before .before .next .given .1))
+loop-less c = omega (arith, following-there (c .before .before .before .before .before .before .before .before .before .before .before .before .before .loop .inv .0) (sym (c .before .before .before .before .before .before .before .before .before .before .before .fetch .ensures) ∙ c .before .before .before .before .before .before .before .before .before .next .given .1))
 
 loop-again : tie.Need-loop-again Inv-loop μ-loop
-loop-again c = (chasing-more (c .before .before .before .before .before .before .before .before .before .before .before .before .before .loop .inv .0) (sym (c .before .before .before .before .before .before .before .before .before .before .before .fetch .ensures) ∙ c .before .before .before .before .before .before .before .before .before .next .given .1) (c .before .before .before .before .obey .ensures), search needs, search needs)
+loop-again c = (following-more (c .before .before .before .before .before .before .before .before .before .before .before .before .before .loop .inv .0) (sym (c .before .before .before .before .before .before .before .before .before .before .before .fetch .ensures) ∙ c .before .before .before .before .before .before .before .before .before .next .given .1) (c .before .before .before .before .obey .ensures), search needs, search needs)
 
 same-length-3 : tie.Need-same-length-3 Inv-loop μ-loop
 same-length-3 c = search needs
@@ -75,7 +76,7 @@ same-length-4 : tie.Need-same-length-4 Inv-loop μ-loop
 same-length-4 c = search needs
 
 returns-2 : tie.Need-returns-2 Inv-loop μ-loop
-returns-2 c = chasing-all (c .before .loop .inv .0) (omega arith)
+returns-2 c = following-all (c .before .loop .inv .0) (omega arith)
 
 pub follow-spec : {M : Type 1} → statement M
 follow-spec =

@@ -1,7 +1,12 @@
 -- `chase::run` meets its contract. Assumes nothing.
+use mathlib.Core.Path.{ap, _∙_}
 use native.Mathlib.Omega.{arith}
 use borrow.Author.Needs.{needs}
-use Rattle.chase.proofs.Chasing.{last-told}
+use Rattle.text.proofs.Following.{at-front}
+use Rattle.lines.specs.Lines.{endLine}
+use Rattle.script.specs.Follow.{Followed}
+use Rattle.chase.specs.Calls.{Memory}
+use Rattle.chase.specs.Run.{lastLine}
 use Rattle.chase.proofs.run.Statement.{statement}
 use Rattle.chase.proofs.run.Tie as tie
 
@@ -18,9 +23,12 @@ same-length : tie.Need-same-length
 same-length c = search needs
 
 returns : tie.Need-returns
+unfolding lastLine
 returns c =
-    let line = c .before .before .end-line .ensures in
-    (omega (arith, line .0), last-told (c .before .before .before .before .before .before .before .before .before .before .before .before .args .script .now) (c .before .before .before .before .before .before .before .follow .ensures) (line .1) (search (needs, line .0)))
+    let line = c .before .before .end-line .ensures in (
+      omega (arith, line .0),
+      at-front (line .1) (search (needs, line .0)) ∙ ap (λ (o : Followed Memory). endLine (o .commands) (o .unused)) (c .before .before .before .before .before .before .before .follow .ensures),
+    )
 
 pub run-spec : {M : Type 1} → statement M
 run-spec =

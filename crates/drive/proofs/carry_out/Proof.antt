@@ -5,7 +5,7 @@ use borrow.Author.Needs.{needs}
 use Rattle.text.proofs.Following.{nothing}
 use Rattle.script.specs.Memory.{memory}
 use Rattle.script.proofs.Limits.{frame-limit, read-limit}
-use Rattle.drive.proofs.Letters.{by-s, by-f, by-r, by-l, by-h, by-other}
+use Rattle.drive.proofs.Letters.{by-s, by-f, by-r, by-l, by-i, by-h, by-other}
 use Rattle.drive.proofs.carry_out.Statement.{statement}
 use Rattle.drive.proofs.carry_out.Tie as tie
 
@@ -76,8 +76,8 @@ returns-4 c =
     let e = c .before .before .let-file-go .ensures in
     (e .0 (a .desks .now) (a .store .now) ∙ sym (law .0), (e .1 .0, rw (law .1) (e .1 .1)))
 
-show-lent-requires : tie.Need-show-lent-requires
-show-lent-requires c κs = search needs
+tell-file-requires : tie.Need-tell-file-requires
+tell-file-requires c κs = search needs
 
 same-length-10 : tie.Need-same-length-10
 same-length-10 c = search needs
@@ -85,18 +85,18 @@ same-length-10 c = search needs
 same-length-11 : tie.Need-same-length-11
 same-length-11 c = search needs
 
-same-length-12 : tie.Need-same-length-12
-same-length-12 c = search needs
-
 returns-5 : tie.Need-returns-5
 returns-5 c =
-    let a = c .before .before .before .before .before .before .before .before .before .before .before .before .before .before .before .args in
-    let law = by-h (a .x) (a .payload .now) (memory (a .w) (a .desks .now) (a .store .now)) (c .before .before .before .before .before .before .if5 .taken) in
-    let e = c .before .before .show-lent .ensures in
-    (e .0 (a .desks .now) (a .store .now) ∙ sym (law .0), (e .1 .0, rw (law .1) (e .1 .1)))
+    let a = c .before .before .before .before .before .before .before .before .before .before .before .before .before .before .args in
+    let law = by-i (a .x) (a .payload .now) (memory (a .w) (a .desks .now) (a .store .now)) (c .before .before .before .before .before .if5 .taken) in
+    let e = c .before .before .tell-file .ensures in
+    (e .0 (a .desks .now) (a .store .now) ∙ sym (law .0), (e .1 .0, rw (law .1) (e .1 .1 (a .desks .now))))
 
-poke-requires : tie.Need-poke-requires
-poke-requires c κs = search needs
+show-lent-requires : tie.Need-show-lent-requires
+show-lent-requires c κs = search needs
+
+same-length-12 : tie.Need-same-length-12
+same-length-12 c = search needs
 
 same-length-13 : tie.Need-same-length-13
 same-length-13 c = search needs
@@ -107,7 +107,23 @@ same-length-14 c = search needs
 returns-6 : tie.Need-returns-6
 returns-6 c =
     let a = c .before .before .before .before .before .before .before .before .before .before .before .before .before .before .before .before .args in
-    let law = by-other (a .x) (a .payload .now) (memory (a .w) (a .desks .now) (a .store .now)) (c .before .before .before .before .before .before .before .before .before .before .before .if1 .left) (c .before .before .before .before .before .before .before .before .before .before .if2 .left) (c .before .before .before .before .before .before .before .before .before .if3 .left) (c .before .before .before .before .before .before .before .before .if4 .left) (c .before .before .before .before .before .before .before .if5 .left) in
+    let law = by-h (a .x) (a .payload .now) (memory (a .w) (a .desks .now) (a .store .now)) (c .before .before .before .before .before .before .if6 .taken) in
+    let e = c .before .before .show-lent .ensures in
+    (e .0 (a .desks .now) (a .store .now) ∙ sym (law .0), (e .1 .0, rw (law .1) (e .1 .1)))
+
+poke-requires : tie.Need-poke-requires
+poke-requires c κs = search needs
+
+same-length-15 : tie.Need-same-length-15
+same-length-15 c = search needs
+
+same-length-16 : tie.Need-same-length-16
+same-length-16 c = search needs
+
+returns-7 : tie.Need-returns-7
+returns-7 c =
+    let a = c .before .before .before .before .before .before .before .before .before .before .before .before .before .before .before .before .before .args in
+    let law = by-other (a .x) (a .payload .now) (memory (a .w) (a .desks .now) (a .store .now)) (c .before .before .before .before .before .before .before .before .before .before .before .before .if1 .left) (c .before .before .before .before .before .before .before .before .before .before .before .if2 .left) (c .before .before .before .before .before .before .before .before .before .before .if3 .left) (c .before .before .before .before .before .before .before .before .before .if4 .left) (c .before .before .before .before .before .before .before .before .if5 .left) (c .before .before .before .before .before .before .before .if6 .left) in
     let e = c .before .before .before .before .poke .ensures in
     (e .0 ∙ sym (law .0), (omega (arith, e .1), rw (law .1, e .1) (nothing _ 0)))
 
@@ -132,12 +148,16 @@ carry-out-spec =
     let-file-go-requires
     same-length-9
     returns-4
-    show-lent-requires
+    tell-file-requires
     same-length-10
     same-length-11
-    same-length-12
     returns-5
-    poke-requires
+    show-lent-requires
+    same-length-12
     same-length-13
     same-length-14
-    returns-6)
+    returns-6
+    poke-requires
+    same-length-15
+    same-length-16
+    returns-7)

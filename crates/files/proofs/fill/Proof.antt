@@ -1,42 +1,26 @@
 -- `fill` meets its contract: a part of the file is a part of its blocks one after the other, ten octets further on. Assumes nothing.
 use mathlib.Core.Path.{_≡_, sym, ap}
-use mathlib.Core.Bool.{true, _&&_}
 use mathlib.Core.List.{List}
-use Prim.Native.Nat.{ℕ, _+_, _-_, _*_, _≤_, _<_}
+use Prim.Native.Nat.{ℕ, _+_, _-_, _≤_, _<_}
 use native.Mathlib.Numerals.{add-one}
 use native.Mathlib.Omega.{arith}
 use borrow.Author.Needs.{needs}
-use borrow.Author.Tests.{eqb-true, le-leb, lt-leb}
-use lib.Dec.{leb}
+use borrow.Author.Tests.{le-leb, lt-leb}
 use lib.ListN.{length}
 use Rattle.octets.specs.Number.{part}
 use Rattle.octets.proofs.Lists.{unmap, part-part}
-use Rattle.octets.proofs.Tests.{and-right}
 use Rattle.transport.specs.Length.{octetsOfBits}
-use Rattle.transport.proofs.Length.{size-sum, need-covers}
 use Rattle.state.specs.declared.Station.{Station}
-use Rattle.state.specs.Slots.{slotAt, complete}
+use Rattle.state.specs.Slots.{slotAt}
 use Rattle.state.specs.Blocks.{numbersOf, table, blocksOf}
 use Rattle.state.specs.Sound.{Sized}
-use Rattle.state.specs.Decision.{isSound}
-use Rattle.state.proofs.Exactly.{sound-yes}
 use Rattle.room.specs.File.{joined, fileOctets}
-use Rattle.station.specs.Files.{storeFits, readGives, readAs}
+use Rattle.station.specs.Files.{readGives, readAs}
 use Rattle.station.specs.declared.Asked.the-variants.{Complete}
-use Rattle.station.proofs.Asking.{complete-held, sound-store}
+use Rattle.station.proofs.Asking.{sound-store}
+use Rattle.files.proofs.Holding.{fits-store, file-room}
 use Rattle.files.proofs.fill.Statement.{statement}
 use Rattle.files.proofs.fill.Tie as tie
-
--- the store lent is the state's
-fits-store : (blocks : ℕ) (store : List ℕ) → storeFits blocks store ≡ true → length store ≡ 8190 * blocks
-fits-store blocks store e = eqb-true (length store) (8190 * blocks) (and-right (leb 1 blocks && leb blocks 4096) _ e)
-
--- the blocks of a complete file have room for it and for the ten octets in front of it
-file-room : {s : Station} {k : ℕ} → Sized s → isSound s ≡ true → k < 32 → complete (slotAt s k) ≡ true
-    → 10 + octetsOfBits (slotAt s k .bits) ≤ 8190 * length (blocksOf s k)
-file-room {s} {k} z sound low whole =
-    let L = slotAt s k .bits in
-    rw (sound-yes z sound .files k low (complete-held (slotAt s k) whole) .places) (omega (arith, size-sum L, need-covers L))
 
 module _ (s : Station) (store : List ℕ) (k offset : ℕ) (buffer : List ℕ) where
   past-size : octetsOfBits (slotAt s k .bits) < offset → readGives 14 buffer ≡ readAs s store offset buffer (Complete k)

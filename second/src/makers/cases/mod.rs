@@ -6,6 +6,7 @@ mod desks;
 mod ends;
 mod errors;
 mod events;
+mod facts;
 mod let_go;
 mod lines;
 mod pokes;
@@ -33,13 +34,19 @@ impl Case {
         script.octets
     }
 
-    /// Those that end the run stand behind all others.
-    fn ends_the_run(&self) -> bool {
-        self.name.starts_with(ends::PREFIX)
+    /// Those that end the run stand behind all others, and those of the facts of a file before
+    /// them, so that what was stored before request 5/14 is printed as before.
+    fn part(&self) -> u8 {
+        match self.name {
+            name if name.starts_with(ends::PREFIX) => 2,
+            name if name.starts_with(facts::PREFIX) => 1,
+            _ => 0,
+        }
     }
 }
 
-/// All cases in the order of their names, those that end the run last.
+/// All cases in the order of their names, those of the facts of a file behind them, and last those
+/// that end the run.
 pub fn all() -> Vec<Case> {
     let mut cases: Vec<Case> = [
         answers::CASES,
@@ -47,6 +54,7 @@ pub fn all() -> Vec<Case> {
         ends::CASES,
         errors::CASES,
         events::CASES,
+        facts::CASES,
         let_go::CASES,
         lines::CASES,
         pokes::CASES,
@@ -57,7 +65,7 @@ pub fn all() -> Vec<Case> {
     .flatten()
     .map(|&(name, shows, make)| Case { name, shows, make })
     .collect();
-    cases.sort_by_key(|case| (case.ends_the_run(), case.name));
+    cases.sort_by_key(|case| (case.part(), case.name));
     cases
 }
 
@@ -84,7 +92,7 @@ Scripts for `trial` (docs/TRIAL.md), each small and named for what it shows, and
 `second case NAME` prints, `NAME.expected` what `second trial` makes of it; `tests/make-stored` writes both anew, and this page too. Each case
 lends memory and sets up at its start, so that they can stand behind one another in any order; those that end the run come last. Octets
 stay in the store from case to case, so that `H` and some reads print other numbers there than alone.
-What stands in quotation marks is the rules paper, or request 2/14 or 3/14 of the change requests (02) where that is named.
+What stands in quotation marks is the rules paper, or request 2/14, 3/14 or 5/14 of the change requests (02) where that is named.
 
 | case | shows |
 |---|---|

@@ -23,6 +23,7 @@ enum Turn {
     Frame,
     OddFrame,
     Read,
+    Facts,
     LetGo,
     LetMostGo,
     Show,
@@ -40,6 +41,7 @@ const TURNS: &[(u64, Turn)] = &[
     (300, Turn::Frame),
     (14, Turn::OddFrame),
     (66, Turn::Read),
+    (30, Turn::Facts),
     (37, Turn::LetGo),
     (16, Turn::LetMostGo),
     (8, Turn::Show),
@@ -119,6 +121,7 @@ impl Maker {
             Turn::Frame => self.frame(),
             Turn::OddFrame => self.odd_frame(),
             Turn::Read => self.read(),
+            Turn::Facts => self.facts(),
             Turn::LetGo => self.let_go(),
             Turn::LetMostGo => self.let_most_go(),
             Turn::Show => self.script.show(),
@@ -232,6 +235,15 @@ impl Maker {
         self.script.read(slot, length as u32, offset);
     }
 
+    /// The facts of a file, incomplete now and then, or of a slot that is free, or of none.
+    fn facts(&mut self) {
+        let slot = match self.chance.below(8) {
+            0 => self.slot(|file| !file.is_held()),
+            _ => self.held_slot(),
+        };
+        self.script.facts(slot);
+    }
+
     /// A file let go, incomplete now and then, or a slot that is free, or none.
     fn let_go(&mut self) {
         let slot = match self.chance.below(8) {
@@ -242,10 +254,13 @@ impl Maker {
         self.script.let_go(slot);
     }
 
-    /// Most complete files, as a caller does who has read them.
+    /// Most complete files, as a caller does who has read them and entered their facts.
     fn let_most_go(&mut self) {
         for slot in 0..SLOTS {
             if self.state().slots[slot].is_complete() && !self.chance.one_in(6) {
+                if self.chance.one_in(2) {
+                    self.script.facts(slot as u16);
+                }
                 self.script.let_go(slot as u16);
             }
         }
@@ -269,11 +284,12 @@ impl Maker {
     /// One to three calls of any kind.
     fn calls(&mut self) {
         for _ in 0..self.chance.between(1, 3) {
-            match self.chance.below(6) {
+            match self.chance.below(7) {
                 0 => self.script.no_frame(),
                 1 => self.frame(),
                 2 => self.read(),
                 3 | 4 => self.let_go(),
+                5 => self.facts(),
                 _ => self.script.show(),
             }
         }

@@ -35,8 +35,9 @@ impl Maker {
             0 => 32,
             _ => self.held_slot(),
         };
-        match self.chance.below(3) {
+        match self.chance.below(4) {
             0 => self.script.read(slot, 0, 0),
+            1 => self.script.facts(slot),
             _ => self.script.let_go(slot),
         }
         self.script.no_frame();
