@@ -28,15 +28,15 @@ use Rattle.judge.proofs.Parts.{whole-largest}
 use Rattle.judge.proofs.Few.{three}
 use Rattle.zone.specs.declared.Sequel.{Sequel}
 use Rattle.zone.specs.declared.Sequel.TheVariants.{Dropped, CarriedOn}
-use Rattle.zone.specs.Zone.{Split, split, Reading, agrees, is_idle, reading}
+use Rattle.zone.specs.Zone.{Split, split, Reading, agrees, reading}
 use Rattle.zone.specs.Walk.{judged_all, gap, held_at, with_held, with_desk, desk_after, Walked, walked_from, walked}
 use Rattle.zone.specs.Contract.{Lent, Going, Carrying, start_at, sequel_of, TellsWalked, Stops, walked_on}
 use Rattle.zone.specs.Contract.Room.{by-packet}
 use Rattle.carry.specs.Contract.{more_of, joined_on, desk_to, sequel_on, Joining, Beginning, Afresh, Onwards}
 use Rattle.carry.specs.Contract.Afresh.{by-gap, by-none, by-drop}
 use Rattle.zone.proofs.Split.{split-left, split_one, unfinished-few, look-carried, carried-lacks, carried-packet}
-use Rattle.zone.proofs.Readings.{from_start, at_pointer, onward, reading-none, reading-idle, reading-bad, reading-on, reading-dropped, reading-gap, reading-seamless}
-use Rattle.zone.proofs.Sequels.{sequel-idle, sequel-good, sequel-bad}
+use Rattle.zone.proofs.Readings.{from_start, at_pointer, onward, reading-none, reading-bad, reading-on, reading-dropped, reading-gap, reading-seamless}
+use Rattle.zone.proofs.Sequels.{sequel-good, sequel-bad}
 use Rattle.zone.proofs.Desks.{over-held, more-held, carried-cut}
 use Rattle.zone.proofs.Walks.{all_one, walked_from_lem, from-carried, from-longer, held-length, desk-unfinished, led, from-led, tells-led}
 use Rattle.walk.proofs.Ends.{desk-low, desk-fits}
@@ -82,7 +82,7 @@ module _ (xs zone : List ℕ) (p : Pointer) (some : 0 < length xs) (long : 6 ≤
   few-not e = omega (arith, look-tells (xs ++ zone) e, length-append xs zone)
 
   pub sequel-dropped : {k : ℕ} → sequel_of (look_of (xs ++ zone)) (length xs) p ≡ Dropped k → reading xs zone p ≡ at_pointer (bare k ∷ []) zone p
-  sequel-dropped {k} f = first (is_idle p) refl
+  sequel-dropped {k} f = by (look_of (xs ++ zone)) refl
     where
       good : (h : Packet) → look_of (xs ++ zone) ≡ Good h → (b : Bool) → agrees (size_of h - length xs) p ≡ b
           → reading xs zone p ≡ at_pointer (bare k ∷ []) zone p
@@ -95,20 +95,13 @@ module _ (xs zone : List ℕ) (p : Pointer) (some : 0 < length xs) (long : 6 ≤
           let z : 2 ≡ k = cc in
           reading-dropped xs zone p some e g ∙ ap (λ (i : ℕ). at_pointer (bare i ∷ []) zone p) z
 
-      by : is_idle p ≡ false → (l : Look) → look_of (xs ++ zone) ≡ l → reading xs zone p ≡ at_pointer (bare k ∷ []) zone p
-      by busy Short e = absurd (few-not e)
-      by busy Bad e =
-          let q : Dropped 3 ≡ Dropped k = sym (sequel-bad p (length xs) busy) ∙ sym (ap (λ (l : Look). sequel_of l (length xs) p) e) ∙ f in
+      by : (l : Look) → look_of (xs ++ zone) ≡ l → reading xs zone p ≡ at_pointer (bare k ∷ []) zone p
+      by Short e = absurd (few-not e)
+      by Bad e =
+          let q : Dropped 3 ≡ Dropped k = sym (sequel-bad p (length xs)) ∙ sym (ap (λ (l : Look). sequel_of l (length xs) p) e) ∙ f in
           let z : 3 ≡ k = cc in
-          reading-bad xs zone p some busy e ∙ ap (λ (i : ℕ). at_pointer (bare i ∷ []) zone p) z
-      by busy (Good h) e = good h e (agrees (size_of h - length xs) p) refl
-
-      first : (b : Bool) → is_idle p ≡ b → reading xs zone p ≡ at_pointer (bare k ∷ []) zone p
-      first true idle =
-          let q : Dropped 2 ≡ Dropped k = sym (sequel-idle p (length xs) (look_of (xs ++ zone)) idle) ∙ f in
-          let z : 2 ≡ k = cc in
-          reading-idle xs zone p some idle ∙ ap (λ (i : ℕ). at_pointer (bare i ∷ []) zone p) z
-      first false busy = by busy (look_of (xs ++ zone)) refl
+          reading-bad xs zone p some e ∙ ap (λ (i : ℕ). at_pointer (bare i ∷ []) zone p) z
+      by (Good h) e = good h e (agrees (size_of h - length xs) p) refl
 
 -- a packet of so many octets goes on from the held ones into the zone
 pub record Onward (xs zone : List ℕ) (p : Pointer) (size : ℕ) : Type 0 where
@@ -119,7 +112,7 @@ pub record Onward (xs zone : List ℕ) (p : Pointer) (size : ℕ) : Type 0 where
 
 module _ (xs zone : List ℕ) (p : Pointer) (some : 0 < length xs) (long : 6 ≤ length zone) where
   pub sequel-onward : {size : ℕ} → sequel_of (look_of (xs ++ zone)) (length xs) p ≡ CarriedOn size → Onward xs zone p size
-  sequel-onward {size} f = first (is_idle p) refl
+  sequel-onward {size} f = by (look_of (xs ++ zone)) refl
     where
       good : (h : Packet) → look_of (xs ++ zone) ≡ Good h → (b : Bool) → agrees (size_of h - length xs) p ≡ b → Onward xs zone p size
       good h e true g =
@@ -131,20 +124,13 @@ module _ (xs zone : List ℕ) (p : Pointer) (some : 0 < length xs) (long : 6 ≤
           let z : ◌≡◌ {A = ℕ} 0 1 = cc in
           absurd (omega arith)
 
-      by : is_idle p ≡ false → (l : Look) → look_of (xs ++ zone) ≡ l → Onward xs zone p size
-      by busy Short e = absurd (few-not xs zone p some long e)
-      by busy Bad e =
-          let q : Dropped 3 ≡ CarriedOn size = sym (sequel-bad p (length xs) busy) ∙ sym (ap (λ (l : Look). sequel_of l (length xs) p) e) ∙ f in
+      by : (l : Look) → look_of (xs ++ zone) ≡ l → Onward xs zone p size
+      by Short e = absurd (few-not xs zone p some long e)
+      by Bad e =
+          let q : Dropped 3 ≡ CarriedOn size = sym (sequel-bad p (length xs)) ∙ sym (ap (λ (l : Look). sequel_of l (length xs) p) e) ∙ f in
           let z : ◌≡◌ {A = ℕ} 0 1 = cc in
           absurd (omega arith)
-      by busy (Good h) e = good h e (agrees (size_of h - length xs) p) refl
-
-      first : (b : Bool) → is_idle p ≡ b → Onward xs zone p size
-      first true idle =
-          let q : Dropped 2 ≡ CarriedOn size = sym (sequel-idle p (length xs) (look_of (xs ++ zone)) idle) ∙ f in
-          let z : ◌≡◌ {A = ℕ} 0 1 = cc in
-          absurd (omega arith)
-      first false busy = by busy (look_of (xs ++ zone)) refl
+      by (Good h) e = good h e (agrees (size_of h - length xs) p) refl
 
 -- the same station, with as many octets on its desks and numbers in its list
 module _ {c : Channel} {s : Station} {a : Accepted} {zone desks store list : List ℕ} (L : Lent c s a zone desks store list) {desked listed : List ℕ}

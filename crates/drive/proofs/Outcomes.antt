@@ -1,7 +1,7 @@
 -- What comes of a call, for the whole buffers and as text. Assumes nothing.
 use mathlib.Core.Path.{◌≡◌, refl, sym, ap, subst, ◌∙◌}
 use mathlib.Core.List.{List, [], ◌∷◌, ◌++◌}
-use Prim.Native.Nat.{ℕ, zero, suc, ◌-◌, ◌%◌, ◌≤◌}
+use Prim.Native.Nat.{ℕ, zero, suc, ◌-◌, ◌≤◌}
 use native.Mathlib.Nat.{sub-zero, le_of_suc-le-suc}
 use native.Mathlib.Omega.{arith}
 use lib.ListN.{take, drop, replicate, take-append-drop}
@@ -26,12 +26,11 @@ use Rattle.drive.specs.Printed.{frame_printed, read_printed, told_printed}
 abbrev holding : Station → Run → List ℕ → List ℕ → Memory
 holding s w desks store = record { station = s; desks = desks; store = store; desks_lent = w.desks; store_lent = w.store }
 
--- set-up of the octets lent, `&mut desks[0..n]` and `&store[0..m]`, by the edition that was asked for
-module _ (x : Command) (w : Run) (channels desks store : List ℕ) {answer edition : ℕ} {s : Station} {part : List ℕ}
-    (e : set_up_gives answer s part ≡ set_up x.a (record { 0 = edition }) channels (take (w.desks - 0) desks) (take (w.store - 0) store))
-    (asked : edition ≡ x.c % 65536) where
+-- set-up of the octets lent, `&mut desks[0..n]` and `&store[0..m]`
+module _ (x : Command) (w : Run) (channels desks store : List ℕ) {answer : ℕ} {s : Station} {part : List ℕ}
+    (e : set_up_gives answer s part ≡ set_up x.a channels (take (w.desks - 0) desks) (take (w.store - 0) store)) where
   given : set_up_gives answer s part ≡ set_up_by x channels (memory w desks store)
-  given = rw (asked, sub-zero w.desks, sub-zero w.store) at e
+  given = rw (sub-zero w.desks, sub-zero w.store) at e
 
   pub set-up-answer : answer ≡ (set_up_by x channels (memory w desks store)).answer
   set-up-answer = ap (λ (o : SetUpOutcome). o.answer) given

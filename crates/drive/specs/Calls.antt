@@ -1,5 +1,5 @@
 -- What S, F, R, L and I do, on the octets lent, and what a command does by its letter. Assumes nothing.
-use Rattle.std.specs.Prelude.{List, ◌++◌, ℕ, ◌%◌, eqb, drop, replicate}
+use Rattle.std.specs.Prelude.{List, ◌++◌, ℕ, eqb, drop, replicate}
 use Rattle.octets.specs.Choice.{if◌then◌else◌}
 use Rattle.state.specs.declared.Station.{Station}
 use Rattle.station.specs.SetUp.{SetUpOutcome, set_up}
@@ -21,10 +21,9 @@ with w s desks store =
       store_lent = w.store_lent;
     }
 
--- S: "set-up: spacecraft a, edition c modulo 65,536, and b channel octets that follow as payload ..; after it the state is what set-up gave, also
--- after a refusal"
+-- S: "set-up: spacecraft a, and b channel octets that follow as payload; after it the state is what set-up gave, also after a refusal"
 abbrev pub set_up_by : Command → List ℕ → Memory → SetUpOutcome
-set_up_by x channels w = set_up x.a (record { 0 = x.c % 65536 }) channels (lent_desks w) (lent_store w)
+set_up_by x channels w = set_up x.a channels (lent_desks w) (lent_store w)
 
 unfoldable pub was_set_up : Command → List ℕ → Memory → Memory
 was_set_up x channels w =

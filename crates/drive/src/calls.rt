@@ -9,7 +9,6 @@ ghost use Rattle.station.specs.Handed.{WentOn};
 ghost use Rattle.drive.specs.Calls.{set_up_by, was_set_up, frame_by, took_frame, read_by, was_let_go, told_by};
 ghost use Rattle.drive.specs.Printed.{frame_printed, read_printed, let_go_printed, told_printed, shown_by};
 
-use frame::Edition;
 use script::{Command, Run};
 use state::Station;
 use station::Told;
@@ -29,8 +28,7 @@ pub fn set_up(
 {
     let n = w.desks;
     let m = w.store;
-    let edition = Edition((x.c % 65536) as u16);
-    let a = station::set_up(x.a, edition, channels, &mut desks[0..n], &store[0..m]);
+    let a = station::set_up(x.a, channels, &mut desks[0..n], &store[0..m]);
     let given = a.station;
     let mut r = w;
     r.station = given;

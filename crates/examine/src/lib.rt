@@ -6,18 +6,12 @@ ghost use Rattle.std.specs.Prelude.{◌≡◌, ◌≤◌, length, take};
 ghost use Rattle.frame.specs.Header.{marker, starts_with};
 ghost use Rattle.frame.specs.Refusals.{examined_header, examined, plain_after};
 
-use frame::{Accepted, Channel, Edition, Examined, Frame, Pointer, Watch};
+use frame::{Accepted, Channel, Examined, Frame, Pointer, Watch};
 
 // Refusals 5 to 9, from the header.
-fn examine_header(
-    h: Frame,
-    edition: Edition,
-    spacecraft: u8,
-    watched: [Channel; Channel::MOST],
-    n: u8,
-) -> Examined
+fn examine_header(h: Frame, spacecraft: u8, watched: [Channel; Channel::MOST], n: u8) -> Examined
     requires { n ≤ 8 }
-    ensures { result ≡ examined_header edition spacecraft (take n watched) h }
+    ensures { result ≡ examined_header spacecraft (take n watched) h }
 {
     if h.version != Frame::VERSION {
         return Examined::Refused(5);
@@ -33,7 +27,7 @@ fn examine_header(
     let Watch::Desk(desk) = w else {
         return Examined::Refused(8);
     };
-    let p = frame::meaning(edition, h.pointer);
+    let p = frame::meaning(h.pointer);
     if let Pointer::Refused = p {
         return Examined::Refused(9);
     }
@@ -58,13 +52,12 @@ fn marked(frame: &[u8]) -> bool
 pub fn examine(
     frame: &[u8],
     plain: &mut [u8],
-    edition: Edition,
     spacecraft: u8,
     watched: [Channel; Channel::MOST],
     n: u8,
 ) -> Examined
     requires { (length plain.old ≡ 1020) × (n ≤ 8) }
-    ensures value { result ≡ examined edition spacecraft (take n watched) frame.now }
+    ensures value { result ≡ examined spacecraft (take n watched) frame.now }
     ensures plain_after { plain.new ≡ plain_after frame.now plain.old }
 {
     if frame.len() != Frame::SIZE {
@@ -75,5 +68,5 @@ pub fn examine(
     }
     noise::mix(&frame[Frame::CODED_AT..Frame::SIZE], plain);
     let h = Frame::read(plain);
-    examine_header(h, edition, spacecraft, watched, n)
+    examine_header(h, spacecraft, watched, n)
 }

@@ -1,6 +1,6 @@
 -- Laws of the frame for the crates above: where a channel stands, what the constructors make, which counter follows, the fields of the header,
 -- the pointer's meaning, what tags tell, when a frame has its size and its marker, when each answer is given, how long the parts of a frame are,
--- the header in the octets as they came, and that beside pointer 2046 both editions say the same.
+-- and the header in the octets as they came.
 pub mod Desks
 pub mod Made
 pub mod Counting
@@ -11,4 +11,3 @@ pub mod Framing
 pub mod Answers
 pub mod Sizes
 pub mod Plainly
-pub mod Editions

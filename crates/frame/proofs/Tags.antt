@@ -14,30 +14,16 @@ pointer_tag p = denote.Enum.Declared.tag_of Rattle.frame.specs.contracts.Pointer
 pub tag-no-start : (p : Pointer) → pointer_tag p ≡ 1 → p ≡ pointer.NoStart
 tag-no-start (pointer.Offset n) h = absurd (omega arith)
 tag-no-start pointer.NoStart h = refl
-tag-no-start pointer.Idle h = absurd (omega arith)
 tag-no-start pointer.Refused h = absurd (omega arith)
 
-pub tag-idle : (p : Pointer) → pointer_tag p ≡ 2 → p ≡ pointer.Idle
-tag-idle (pointer.Offset n) h = absurd (omega arith)
-tag-idle pointer.NoStart h = absurd (omega arith)
-tag-idle pointer.Idle h = refl
-tag-idle pointer.Refused h = absurd (omega arith)
-
-pub tag-refused : (p : Pointer) → pointer_tag p ≡ 3 → p ≡ pointer.Refused
+pub tag-refused : (p : Pointer) → pointer_tag p ≡ 2 → p ≡ pointer.Refused
 tag-refused (pointer.Offset n) h = absurd (omega arith)
 tag-refused pointer.NoStart h = absurd (omega arith)
-tag-refused pointer.Idle h = absurd (omega arith)
 tag-refused pointer.Refused h = refl
 
-pub tag-allowed : (p : Pointer) → (pointer_tag p ≡ 0) ⊎ ((pointer_tag p ≡ 1) ⊎ (pointer_tag p ≡ 2)) → p ≡ pointer.Refused → ⊥
+pub tag-allowed : (p : Pointer) → (pointer_tag p ≡ 0) ⊎ (pointer_tag p ≡ 1) → p ≡ pointer.Refused → ⊥
 tag-allowed p (inl h) e = omega (arith, ap pointer_tag e)
-tag-allowed p (inr (inl h)) e = omega (arith, ap pointer_tag e)
-tag-allowed p (inr (inr h)) e = omega (arith, ap pointer_tag e)
-
-pub tag-busy : (p : Pointer) → (pointer_tag p ≡ 0) ⊎ ((pointer_tag p ≡ 1) ⊎ (pointer_tag p ≡ 3)) → p ≡ pointer.Idle → ⊥
-tag-busy p (inl h) e = omega (arith, ap pointer_tag e)
-tag-busy p (inr (inl h)) e = omega (arith, ap pointer_tag e)
-tag-busy p (inr (inr h)) e = omega (arith, ap pointer_tag e)
+tag-allowed p (inr h) e = omega (arith, ap pointer_tag e)
 
 abbrev pub watch_tag : Watch → ℕ
 watch_tag w = denote.Enum.Declared.tag_of Rattle.frame.specs.contracts.Watch.the_type w

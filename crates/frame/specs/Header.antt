@@ -3,10 +3,9 @@ use Rattle.std.specs.Prelude.{Bool, true, false, ◌&&◌, List, [], ◌∷◌, 
 use Rattle.octets.specs.Choice.{if◌then◌else◌}
 use Rattle.octets.specs.Number.{part, bits_at}
 use Rattle.noise.specs.Noise.{mixed}
-use Rattle.frame.specs.declared.Edition.{Edition}
 use Rattle.frame.specs.declared.Frame.{Frame}
 use Rattle.frame.specs.declared.Pointer.{Pointer}
-use Rattle.frame.specs.declared.Pointer.TheVariants.{Offset, NoStart, Idle, Refused}
+use Rattle.frame.specs.declared.Pointer.TheVariants.{Offset, NoStart, Refused}
 
 -- "Octets 0 to 3 are 1A CF FC 1D"
 abbrev pub marker : List ℕ
@@ -46,11 +45,6 @@ pub record Bounded (h : Frame) : Type 0 where
 unfoldable pub zone_of : List ℕ → List ℕ
 zone_of plain = part 8 884 plain
 
--- the offset in the zone of the first packet that starts there; none starts at 2047. "Later CCSDS AOS books (732.0-B) give pointer 2046 a meaning:
--- the zone is idle only." All else means nothing and is refused: under 701 that is 884 to 2046, under 732 it is 884 to 2045 (02, 6/14)
-unfoldable pub pointer_meaning : Edition → ℕ → Pointer
-pointer_meaning edition p =
-    if ltb p 884 then Offset p
-    else if eqb p 2047 then NoStart
-    else if eqb p 2046 && eqb edition.0 732 then Idle
-    else Refused
+-- the offset in the zone of the first packet that starts there; none starts at 2047; 884 to 2046 mean nothing and are refused
+unfoldable pub pointer_meaning : ℕ → Pointer
+pointer_meaning p = if ltb p 884 then Offset p else if eqb p 2047 then NoStart else Refused

@@ -1,7 +1,6 @@
--- Editions, channel numbers and frame counters. Assumes nothing.
-use Rattle.std.specs.Prelude.{Bool, ◌||◌, List, [], ◌∷◌, ℕ, suc, ◌+◌, ◌%◌, leb, ltb, eqb}
+-- Channel numbers and frame counters. Assumes nothing.
+use Rattle.std.specs.Prelude.{Bool, List, [], ◌∷◌, ℕ, suc, ◌+◌, ◌%◌, leb, ltb, eqb}
 use Rattle.octets.specs.Choice.{if◌then◌else◌}
-use Rattle.frame.specs.declared.Edition.{Edition}
 use Rattle.frame.specs.declared.Channel.{Channel}
 use Rattle.frame.specs.declared.CheckedChannel.{CheckedChannel}
 use Rattle.frame.specs.declared.CheckedChannel.TheVariants as channel
@@ -10,10 +9,6 @@ use Rattle.frame.specs.declared.CheckedCounter.{CheckedCounter}
 use Rattle.frame.specs.declared.CheckedCounter.TheVariants as counter
 use Rattle.frame.specs.declared.Watch.{Watch}
 use Rattle.frame.specs.declared.Watch.TheVariants.{Desk, NotWatched}
-
--- "Set-up names the edition, 701 or 732" (02, 6/14)
-unfoldable pub good_edition : Edition → Bool
-good_edition edition = eqb edition.0 701 || eqb edition.0 732
 
 -- "channels 0 to 62"
 abbrev pub checked_channel : ℕ → CheckedChannel

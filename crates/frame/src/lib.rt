@@ -1,31 +1,11 @@
 // The frame as it comes off the dish: a channel access unit of 1,024 octets.
 //
-// Owns the frame's sizes and marker, the kinds Edition, Channel and Counter, the header, the meaning of the pointer, what refusals 3 to 9 mean, and
-// the laws of them; the refusals themselves are found by `examine`. Promises: header fields stand at the bit positions of the paper; a pointer means
+// Owns the frame's sizes and marker, the kinds Channel and Counter, the header, the meaning of the pointer, what refusals 3 to 9 mean, and the
+// laws of them; the refusals themselves are found by `examine`. Promises: header fields stand at the bit positions of the paper; a pointer means
 // what it says, and a channel's desk is its place among those watched.
 ghost use Rattle.std.specs.Prelude.{◌≡◌, ◌≤◌, length, take};
-ghost use Rattle.frame.specs.Kinds.{good_edition, checked_channel, checked_counter, next_counter, counter_follows, desk_of};
+ghost use Rattle.frame.specs.Kinds.{checked_channel, checked_counter, next_counter, counter_follows, desk_of};
 ghost use Rattle.frame.specs.Header.{frame_of, Bounded, pointer_meaning};
-
-// An edition of the CCSDS books, by the number that it is named by. Only the pointer's meaning looks at it.
-#[derive(Drop)]
-pub struct Edition(pub u16);
-
-impl Edition {
-    // CCSDS 701.0-B.
-    pub const EARLIER: u16 = 701;
-    // CCSDS 732.0-B, which gives pointer 2046 a meaning.
-    pub const LATER: u16 = 732;
-
-    pub fn is_good(self) -> bool
-        ensures { result ≡ good_edition self }
-    {
-        if self.0 == Edition::EARLIER {
-            return true;
-        }
-        self.0 == Edition::LATER
-    }
-}
 
 // A channel number. It cannot stand for an application number, nor the other way round.
 #[derive(Drop)]
@@ -95,12 +75,11 @@ impl Counter {
     }
 }
 
-// What the pointer says of the zone: the offset at which the first packet starts, that none starts, that it is idle only, or nothing that is allowed.
+// What the pointer says of the zone: the offset at which the first packet starts, that none starts, or nothing that is allowed.
 #[derive(Drop)]
 pub enum Pointer {
     Offset(u16),
     NoStart,
-    Idle,
     Refused,
 }
 
@@ -135,8 +114,6 @@ impl Frame {
     pub const VERSION: u8 = 1;
     // The pointer of a zone in which no packet starts.
     pub const NO_START: u16 = 2047;
-    // The pointer of a zone that is idle only, since edition 732.
-    pub const IDLE: u16 = 2046;
     // A pointer has eleven bits.
     pub const POINTERS: u16 = 2048;
 
@@ -160,8 +137,8 @@ impl Frame {
     }
 }
 
-pub fn meaning(edition: Edition, pointer: u16) -> Pointer
-    ensures { result ≡ pointer_meaning edition pointer }
+pub fn meaning(pointer: u16) -> Pointer
+    ensures { result ≡ pointer_meaning pointer }
 {
     if (pointer as usize) < Frame::ZONE {
         return Pointer::Offset(pointer);
@@ -169,13 +146,7 @@ pub fn meaning(edition: Edition, pointer: u16) -> Pointer
     if pointer == Frame::NO_START {
         return Pointer::NoStart;
     }
-    if pointer != Frame::IDLE {
-        return Pointer::Refused;
-    }
-    if edition.0 != Edition::LATER {
-        return Pointer::Refused;
-    }
-    Pointer::Idle
+    Pointer::Refused
 }
 
 // Where a channel stands among those watched.

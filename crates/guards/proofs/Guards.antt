@@ -8,8 +8,6 @@ use native.Mathlib.Omega.{arith}
 use borrow.Author.Tests.{eq-eqb, le-leb, ltb-true, leb-true}
 use lib.Dec.{ltb, leb}
 use lib.ListN.{length, drop, get_or, set, replicate, length-append, length-replicate}
-use Rattle.frame.specs.declared.Edition.{Edition}
-use Rattle.frame.specs.Kinds.{good_edition}
 use Rattle.transport.specs.declared.Transport.{Transport}
 use Rattle.transport.specs.Length.{good_length, octets_of_bits, transport_size, need, rest}
 use Rattle.records.specs.declared.HeaderAnswer.{HeaderAnswer}
@@ -30,7 +28,7 @@ use Rattle.events.specs.Event.{Event, of, at}
 use Rattle.judge.specs.Judge.{data_of}
 use Rattle.judge.specs.Packets.{Starts}
 use Rattle.zone.specs.Zone.{split}
-use Rattle.zone.specs.Walk.{gap}
+use Rattle.zone.specs.Walk.{desk_after, gap}
 use Rattle.zone.proofs.Readings.{reading-first}
 use Rattle.station.specs.declared.Told.TheVariants.{Known}
 use Rattle.station.specs.SetUp.{channel_of, fresh_station, set_up}
@@ -47,8 +45,8 @@ use Rattle.history.proofs.Sound.{fresh-sound, world-sound, after-sound}
 use Rattle.history.proofs.LetGo.{reports}
 use Rattle.guards.specs.Sent.{Program, plain, sent_on, sent, ten_frames_on, ten_frames, all_said, checked, long, first, middle, tiny, last, fill, whole_of, whole, damaged, reserved, primary, twelve_bits}
 use Rattle.guards.specs.Guards.{none_touched, good_header, part_of_an_octet, read_out, header_read_out, two_blocks, three_blocks, five_blocks, seven_blocks, published, two_packets, one_lost, held_file, needs_two, needs_three, needs_seven, let_go_early, freed_at_once, lower_slot, two_channels, Runs, Guards}
-use Rattle.guards.proofs.Sending.{desk_with, cut, ListensOn, Listens, MakesOn, Makes, makes_none, step, brings-packets, BringsOn, Brings}
-use Rattle.guards.proofs.Losses.{fresh-is, loss-runs, idle-runs}
+use Rattle.guards.proofs.Sending.{accepts, cut, ListensOn, Listens, MakesOn, Makes, makes_none, step, brings-packets, BringsOn, Brings}
+use Rattle.guards.proofs.Losses.{fresh-is, loss-runs}
 use Rattle.guards.proofs.Making.{MakesOneOn, MakesOne, makes-then}
 use Rattle.guards.proofs.ReadOut.{read_out_lem, facts-told}
 use Rattle.guards.proofs.Packets.{odd-cuts, damaged-makes, reserved-makes, ill-makes, Alone, written, whole-starts, six_of, head_of, header-look, file_on, file_at, ten, bits, long-size, carries, first-opens, first-refused, middle-adds, last-adds, last-ends, tiny-stray, tiny-before, tiny-ends, fill-makes, fill-size, fill-cuts, last-cuts, whole-cuts, whole-head, whole-opens, whole-over}
@@ -125,7 +123,7 @@ let-go-reports x L = reports L.sound 0 (omega arith) ∙ ap (λ (ys : List Slot)
 -- the fresh station of the program
 module _ (x : Start) (p : Program x) where
   fresh-silent : (i : ℕ) → desk_at (fresh x).station i ≡ empty_desk
-  fresh-silent i = ap (λ (s : Station). desk_at s i) (fresh-is x p) ∙ fresh-desk 1 x.edition (0 ∷ 1 ∷ 2 ∷ 3 ∷ []) 7 i
+  fresh-silent i = ap (λ (s : Station). desk_at s i) (fresh-is x p) ∙ fresh-desk 1 (0 ∷ 1 ∷ 2 ∷ 3 ∷ []) 7 i
 
   -- every channel waits for its first frame
   fresh_on : (c : ℕ) → c < 4 → ListensOn c (fresh x) 0 [] (replicate 32 no_file)
@@ -180,7 +178,7 @@ module _ (list : List ℕ) (listed : 900 ≤ length list) where
       → (w : World) → ListensOn c w n [] xs → BringsOn c w (frame (sent_on c n 0 zone) list ∷ []) (n + 1) ys es
   unfolding run all_said
   one-brings n low zone size ps cuts {c} does w L =
-      let (v, t) = step L low 0 (inl (omega arith)) zone list size listed zone (reading-first w.station.edition zone) ps [] cuts (n + 1) refl does in
+      let (v, t) = step L low 0 (inl (omega arith)) zone list size listed zone (reading-first zone) ps [] cuts (n + 1) refl does in
       record { listens = v; tells = append-nil (said w (frame (sent_on c n 0 zone) list)) ∙ t }
 
   -- a packet with nothing but fill behind it
@@ -432,22 +430,21 @@ module _ (list : List ℕ) (listed : 900 ≤ length list) where
         }
 
 -- a set-up of the program: desks and store of zeros
-program : (edition : Edition) → good_edition edition ≡ true → (x : Start) × Program x × (x.edition ≡ edition)
+program : (x : Start) × Program x
 unfolding good_channels distinct_channels among
-program edition known =
+program =
     let desks = replicate {A = ℕ} 32792 0 in
     let store = replicate {A = ℕ} 57330 0 in
     let long : length store ≡ 57330 = length-replicate {A = ℕ} 57330 0 in
-    let good : (set_up 1 edition (0 ∷ 1 ∷ 2 ∷ 3 ∷ []) desks store).answer ≡ 0 =
-    (set_up-zero 1 edition (0 ∷ 1 ∷ 2 ∷ 3 ∷ []) desks store).1 (
-      and_both known refl,
+    let good : (set_up 1 (0 ∷ 1 ∷ 2 ∷ 3 ∷ []) desks store).answer ≡ 0 =
+    (set_up-zero 1 (0 ∷ 1 ∷ 2 ∷ 3 ∷ []) desks store).1 (
+      refl,
       eq-eqb (length desks) 32792 (length-replicate {A = ℕ} 32792 0),
       and_both (and_both (eq-eqb (length store % 8190) 0 (omega arith)) (le-leb 1 (length store / 8190) (omega arith)))
           (le-leb (length store / 8190) 4096 (omega arith)),
     ) in (
-      record { spacecraft = 1; edition = edition; channels = 0 ∷ 1 ∷ 2 ∷ 3 ∷ []; desks = desks; store = store; good = good },
+      record { spacecraft = 1; channels = 0 ∷ 1 ∷ 2 ∷ 3 ∷ []; desks = desks; store = store; good = good },
       record { spacecraft = refl; channels = refl; store = long },
-      refl,
     )
 
 -- a frame is sent as octets, if its header and zone are octets
@@ -466,9 +463,9 @@ octets-each (x ∷ xs) e (suc i) = octets-each xs (and_right (ltb x 256) (each (
 
 -- the whole packet of the published frame
 moment : (m : Moment) × Octets m.sent × (t : Transport) × Starts m.p t
-unfolding run each good_edition
+unfolding run each
 moment =
-    let (x, q, _) = program (record { 0 = 732 }) refl in
+    let (x, q) = program in
     let list = replicate {A = ℕ} 900 0 in
     let listed : 900 ≤ length list = omega (arith, length-replicate {A = ℕ} 900 0) in
     let zone = whole ++ fill 865 in (
@@ -480,11 +477,11 @@ moment =
         before = [];
         channel = channel_of 2;
         p = whole;
-        later = packet (channel_of 2) (fill 865) ∷ left 2 (desk_with 0 0) ∷ [];
+        later = packet (channel_of 2) (fill 865) ∷ left 2 (desk_after (accepts 0 0) 0) ∷ [];
         brought =
             brings-packets (fresh-listens x q) (omega arith) 0 (inl (omega arith)) zone list
             (omega (arith, length-append whole (fill 865), fill-size 865 (omega arith) (omega arith))) listed
-            zone (reading-first (fresh x).station.edition zone) (whole ∷ fill 865 ∷ []) [] (whole-cuts 865 (omega arith) (omega arith) 5 (omega arith));
+            zone (reading-first zone) (whole ∷ fill 865 ∷ []) [] (whole-cuts 865 (omega arith) (omega arith) 5 (omega arith));
       },
       sent-octets 2 0 0 zone (octets-each (plain 2 0 0 zone) refl),
       bits 8,
@@ -492,5 +489,4 @@ moment =
     )
 
 pub guards : Guards
-guards =
-    record { set-up = program; moment = moment; runs = λ x p list listed. runs list listed x p; losses = loss-runs; idle-zones = idle-runs }
+guards = record { set-up = program; moment = moment; runs = λ x p list listed. runs list listed x p; losses = loss-runs }

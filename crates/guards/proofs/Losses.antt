@@ -2,9 +2,9 @@
 -- else of the station's reading. Assumes nothing.
 use mathlib.Core.Path.{◌≡◌, refl, sym, ap, ap₂, subst, ◌∙◌}
 use mathlib.Core.Bool.{false≢true}
-use mathlib.Core.Logic.{inl, inr, ⊎_elim}
+use mathlib.Core.Logic.{◌⊎◌, inl, inr, ⊎_elim}
 use mathlib.Core.List.{List, [], ◌∷◌, ◌++◌, append-nil, append_assoc, flatten}
-use Prim.Native.Nat.{ℕ, ◌+◌, ◌-◌, ◌/◌, ◌%◌, ◌≤◌, ◌<◌}
+use Prim.Native.Nat.{ℕ, ◌+◌, ◌-◌, ◌/◌, ◌≤◌, ◌<◌}
 use native.Mathlib.Omega.{arith}
 use borrow.Author.Tests.{le-ltb, ne_eqb}
 use lib.ListN.{length, take, drop, get_or, replicate, length-append, drop_of_length-le}
@@ -12,13 +12,11 @@ use lib.Seq.{drop_at}
 use Rattle.octets.specs.Number.{number, bits_at}
 use Rattle.frame.specs.declared.Accepted.{Accepted}
 use Rattle.frame.specs.declared.Channel.{Channel}
-use Rattle.frame.specs.declared.Edition.{Edition}
 use Rattle.frame.specs.declared.Examined.TheVariants.{Good}
 use Rattle.frame.specs.declared.Frame.{Frame}
-use Rattle.frame.specs.declared.Pointer.TheVariants.{Refused}
-use Rattle.frame.specs.Header.{pointer_meaning}
-use Rattle.frame.proofs.Pointers.{else-refused, idle-refused}
-use Rattle.frame.proofs.Answers.{good-header}
+use Rattle.noise.proofs.Mixing.{mixed-twice}
+use Rattle.frame.specs.Header.{derandomised, frame_of}
+use Rattle.frame.proofs.Answers.{of-header, pointer-good}
 use Rattle.packet.specs.declared.Packet.{Packet}
 use Rattle.packet.specs.declared.Look.TheVariants as look
 use Rattle.packet.specs.Header.{packet_of, size_of, bad, look_of}
@@ -38,11 +36,11 @@ use Rattle.zone.proofs.Walks.{all-stays}
 use Rattle.station.specs.SetUp.{SetUpOutcome, channel_of, fresh_station}
 use Rattle.station.specs.Frame.{channel_at}
 use Rattle.station.proofs.Calls.{set_up-outcome}
-use Rattle.history.specs.Run.{World, Call, answer, after, run, Start, fresh, SoundWorld}
+use Rattle.history.specs.Run.{World, Call, answer, after, Start, fresh, SoundWorld}
 use Rattle.history.specs.Run.Call.{frame}
 use Rattle.history.specs.Things.{examined_in, said}
 use Rattle.history.specs.Openings.{counter_in, pointer_in, zone_in, OnDesk, on_desk, leaving, Lacks, Carried, Dropped, Opens, Closes}
-use Rattle.history.specs.Openings.Dropped.{by-gap, none-held, by-idle, by-header, by-pointer}
+use Rattle.history.specs.Openings.Dropped.{by-gap, none-held, by-header, by-pointer}
 use Rattle.history.specs.Openings.Opens.{carries-on, begins-anew}
 use Rattle.history.specs.Openings.Closes.{to_end, to-bad}
 use Rattle.history.specs.Heard.{unheard}
@@ -51,10 +49,9 @@ use Rattle.history.proofs.Moments.{frame-taken}
 use Rattle.history.proofs.Sound.{fresh-sound, after-sound, sound-takes}
 use Rattle.history.proofs.Openings.{desk-then, station-then, said-then}
 use Rattle.history.proofs.Channels.{fresh-unheard}
-use Rattle.history.proofs.Editions.{edition-stays}
-use Rattle.guards.specs.Sent.{Program, sent, all_said, fill, whole}
-use Rattle.guards.specs.Losses.{ten_held, whole_behind, nine, ten, jumped, bad_header, three_held, idle_zone, opens_at, Losses, LossRuns, IdleZones, IdleRuns}
-use Rattle.guards.proofs.Sending.{four, accepts_on, Pointing, pointing-few, header-sent, sent-good, zone-sent, Makes, makes_none}
+use Rattle.guards.specs.Sent.{Program, plain, sent, all_said, fill, whole}
+use Rattle.guards.specs.Losses.{ten_held, whole_behind, nine, ten, jumped, bad_header, opens_at, Losses, LossRuns}
+use Rattle.guards.proofs.Sending.{four, accepts, header-sent, sent-plain, sent-framed, sent-good, zone-sent, Makes, makes_none}
 use Rattle.guards.proofs.Making.{MakesOne, makes-then}
 use Rattle.guards.proofs.Packets.{head_of, header-look, file_at, fill-makes, fill-size, whole-opens}
 
@@ -73,10 +70,10 @@ abbrev Leaves : World → Call → OnDesk → List Slot → List Event → Type 
 Leaves w c d xs es = Waits (after w c) d xs × (said w c ≡ es)
 
 -- the fresh station of the program
-pub fresh-is : (x : Start) → Program x → (fresh x).station ≡ fresh_station 1 x.edition (0 ∷ 1 ∷ 2 ∷ 3 ∷ []) 7
+pub fresh-is : (x : Start) → Program x → (fresh x).station ≡ fresh_station 1 (0 ∷ 1 ∷ 2 ∷ 3 ∷ []) 7
 fresh-is x p =
     let k : length x.store / 8190 ≡ 7 = omega (arith, p.store) in
-    ap (λ (o : SetUpOutcome). o.station) ((set_up-outcome x.spacecraft x.edition x.channels x.desks x.store).done x.good)
+    ap (λ (o : SetUpOutcome). o.station) ((set_up-outcome x.spacecraft x.channels x.desks x.store).done x.good)
     ∙ rw (p.spacecraft, p.channels, k) refl
 
 fresh-waits : (x : Start) → Program x → Waits (fresh x) unheard (replicate 32 no_file)
@@ -99,48 +96,50 @@ record Says (f : List ℕ) (n p : ℕ) (zone : List ℕ) : Type 0 where
   pointer : pointer_in f ≡ p
   octets : zone_in f ≡ zone
 
-sent-says : (n p : ℕ) (zone : List ℕ) → n < 256 → p < 2048 → length zone ≡ 884 → Says (sent n p zone) n p zone
-sent-says n p zone low few size =
-    let is = header-sent 2 n p zone (omega arith) low few in
-    record {
-      counter = ap (λ (x : Frame). x.counter.0) is;
-      pointer = ap (λ (x : Frame). x.pointer) is;
-      octets = zone-sent 2 n p zone size;
-    }
+module _ (n p : ℕ) (zone : List ℕ) (low : n < 256) (points : (p < 884) ⊎ (p ≡ 2047)) (size : length zone ≡ 884) where
+  sent-says : Says (sent n p zone) n p zone
+  sent-says =
+      let is = ap frame_of (sent-plain 2 n p zone (omega arith) low points) ∙ header-sent 2 n p zone (omega arith) low points in
+      record {
+        counter = ap (λ (x : Frame). x.counter.0) is;
+        pointer = ap (λ (x : Frame). x.pointer) is;
+        octets = zone-sent 2 n p zone (omega arith) low points size;
+      }
 
--- what a frame brings, by the case that holds
-module _ {w : World} {d : OnDesk} {xs : List Slot} (L : Waits w d xs) (list : List ℕ) (room : 900 ≤ length list)
-    (n p : ℕ) (zone : List ℕ) (low : n < 256) (points : Pointing w.station.edition p) (size : length zone ≡ 884) where
-  good : examined_in w (sent n p zone) ≡ Good (accepts_on w.station.edition 2 n p)
-  good = rw (L.craft, L.channels, L.watched) (sent-good 2 n p zone size w.station.edition (omega arith) low points)
+  -- what a frame brings, by the case that holds
+  module _ {w : World} {d : OnDesk} {xs : List Slot} (L : Waits w d xs) (list : List ℕ) (room : 900 ≤ length list) where
+    good : examined_in w (sent n p zone) ≡ Good (accepts n p)
+    good =
+        rw (L.craft, L.channels, L.watched)
+        (of-header 1 (take 4 four) (sent n p zone) (sent-framed 2 n p zone (omega arith) low points size) ∙ sent-good 2 n p zone (omega arith) low points size)
 
-  step : {es zs js : List Event} {ys held : List ℕ} {xs' : List Slot} (ps : List (List ℕ)) → Opens d (sent n p zone) es ys → Closes ys ps held zs
-      → Makes xs ps xs' js → Leaves w (frame (sent n p zone) list) (leaving held n) xs' (es ++ js ++ zs)
-  step {es} {zs} {ys = ys} {held = kept} ps o c does =
-      let f = sent n p zone in
-      let s = w.station in
-      let (t, same) = sound-takes L.sound f list good room in
-      let here : 2 ≡ t.frame.desk = sym (ap (λ (a : Accepted). a.desk) same) in
-      let its : channel_at s t.frame.desk ≡ channel_of 2 =
-      ap (channel_at s) (sym here) ∙ ap (λ (cs : List Channel). get_or cs 2 (channel_of 0)) L.watched in
-      let o' : Opens (on_desk w t.frame.desk) f es ys =
-      subst (λ (x : OnDesk). Opens x f es ys) (sym L.desk ∙ ap (on_desk w) here) o in
-      let made = does.from s w.store L.slots L.blocks in
-      let j = judged_all (channel_at s t.frame.desk) s w.store ps in
-      let a = all-stays (channel_at s t.frame.desk) s w.store ps in
-      let is = station-then L.sound t ps o' c in (
-        record {
-          sound = after-sound L.sound (frame f list);
-          craft = ap (λ (x : Station). x.spacecraft) is ∙ a.spacecraft ∙ L.craft;
-          channels = ap (λ (x : Station). x.channels) is ∙ a.channels ∙ L.channels;
-          watched = ap (λ (x : Station). x.watched) is ∙ a.watched ∙ L.watched;
-          blocks = ap (λ (x : Station). x.blocks) is ∙ a.blocks ∙ L.blocks;
-          slots = ap (λ (x : Station). x.slots) is ∙ ap (λ (ch : Channel). (judged_all ch s w.store ps).station.slots) its ∙ made.0;
-          desk = ap (on_desk (after w (frame f list))) here ∙ desk-then L.sound t ps o' c ∙ ap (leaving kept) (sent-says n p zone low (pointing-few s.edition p points) size).counter;
-        },
-        said-then L.sound t ps o' c
-            ∙ ap (λ (ks : List Event). es ++ ks ++ zs) (ap (λ (ch : Channel). (judged_all ch s w.store ps).events) its ∙ made.1),
-      )
+    step : {es zs js : List Event} {ys held : List ℕ} {xs' : List Slot} (ps : List (List ℕ)) → Opens d (sent n p zone) es ys → Closes ys ps held zs
+        → Makes xs ps xs' js → Leaves w (frame (sent n p zone) list) (leaving held n) xs' (es ++ js ++ zs)
+    step {es} {zs} {ys = ys} {held = kept} ps o c does =
+        let f = sent n p zone in
+        let s = w.station in
+        let (t, same) = sound-takes L.sound f list good room in
+        let here : 2 ≡ t.frame.desk = sym (ap (λ (a : Accepted). a.desk) same) in
+        let its : channel_at s t.frame.desk ≡ channel_of 2 =
+        ap (channel_at s) (sym here) ∙ ap (λ (cs : List Channel). get_or cs 2 (channel_of 0)) L.watched in
+        let o' : Opens (on_desk w t.frame.desk) f es ys =
+        subst (λ (x : OnDesk). Opens x f es ys) (sym L.desk ∙ ap (on_desk w) here) o in
+        let made = does.from s w.store L.slots L.blocks in
+        let j = judged_all (channel_at s t.frame.desk) s w.store ps in
+        let a = all-stays (channel_at s t.frame.desk) s w.store ps in
+        let is = station-then L.sound t ps o' c in (
+          record {
+            sound = after-sound L.sound (frame f list);
+            craft = ap (λ (x : Station). x.spacecraft) is ∙ a.spacecraft ∙ L.craft;
+            channels = ap (λ (x : Station). x.channels) is ∙ a.channels ∙ L.channels;
+            watched = ap (λ (x : Station). x.watched) is ∙ a.watched ∙ L.watched;
+            blocks = ap (λ (x : Station). x.blocks) is ∙ a.blocks ∙ L.blocks;
+            slots = ap (λ (x : Station). x.slots) is ∙ ap (λ (ch : Channel). (judged_all ch s w.store ps).station.slots) its ∙ made.0;
+            desk = ap (on_desk (after w (frame f list))) here ∙ desk-then L.sound t ps o' c ∙ ap (leaving kept) sent-says.counter;
+          },
+          said-then L.sound t ps o' c
+              ∙ ap (λ (ks : List Event). es ++ ks ++ zs) (ap (λ (ch : Channel). (judged_all ch s w.store ps).events) its ∙ made.1),
+        )
 
 -- packets in front of what is left
 whole-if : (p : List ℕ) {h : Packet} → look_of p ≡ look.Good h → length p ≡ size_of h → Whole p
@@ -208,28 +207,27 @@ module _ {f : List ℕ} {n p : ℕ} {zone : List ℕ} (s : Says f n p zone) (d :
   onward : Carried d f → Opens d f [] (d.held ++ zone)
   onward c = subst (Opens d f []) (ap (λ (ys : List ℕ). d.held ++ ys) s.octets) (carries-on c)
 
--- frames, one after the other
-said-first : (w : World) (c : Call) (cs : List Call) {es fs : List Event} → said w c ≡ es → all_said (after w c) cs ≡ fs → all_said w (c ∷ cs) ≡ es ++ fs
-unfolding all_said
-said-first w c cs q r = ap₂ ◌++◌ q r
-
-said-only : (w : World) (c : Call) {es : List Event} → said w c ≡ es → all_said w (c ∷ []) ≡ es
-unfolding all_said
-said-only w c q = append-nil (said w c) ∙ q
-
+-- two frames, one after the other
 both-said : (w : World) (c e : Call) {es fs : List Event} → said w c ≡ es → said (after w c) e ≡ fs → all_said w (c ∷ e ∷ []) ≡ es ++ fs
-both-said w c e q r = said-first w c (e ∷ []) q (said-only (after w c) e r)
+unfolding all_said
+both-said w c e q r = ap₂ ◌++◌ q (append-nil (said (after w c) e) ∙ r)
 
--- a frame whose pointer is refused is not seen
-pointer-refused : (w : World) (f list : List ℕ) → pointer_meaning w.station.edition (pointer_in f) ≡ Refused
-    → (after w (frame f list) ≡ w) × (said w (frame f list) ≡ [])
+-- a frame that is sent with pointer 884 is refused
+beyond : (n : ℕ) (zone : List ℕ) → pointer_in (sent n 884 zone) ≡ 884
+unfolding derandomised frame_of bits_at number
+beyond n zone =
+    let p : bits_at (take 8 (plain 2 n 884 zone)) 53 11 ≡ 884 = omega arith in
+    ap (λ (xs : List ℕ). (frame_of xs).pointer) (mixed-twice (plain 2 n 884 zone)) ∙ p
+
+pointed-beyond : (w : World) (f list : List ℕ) → pointer_in f ≡ 884 → (after w (frame f list) ≡ w) × (said w (frame f list) ≡ [])
 unfolding said
-pointer-refused w f list e =
+pointed-beyond w f list e =
     let s = w.station in
+    let ws = take s.channels s.watched in
     let not-0 : answer w (frame f list) ≡ 0 → ⊥ =
     λ z.
     let t = frame-taken w f list z in
-    (good-header s.edition s.spacecraft (take s.channels s.watched) f t.frame t.good).allowed e in
+    ⊎_elim (λ l. omega (arith, l)) (λ l. omega (arith, l)) (pointer-good s.spacecraft ws f t.frame t.good) in
     (((every-answer w (frame f list)).refused not-0).world, rw (ne_eqb (answer w (frame f list)) 0 not-0))
 
 -- the zone of a frame with a whole packet behind some octets, and what the frame says
@@ -243,53 +241,31 @@ module _ (front : List ℕ) (few : length front ≤ 856) where
       omega (arith, length-append (front ++ whole) (fill m), length-append front whole, fill-size m (omega arith) (omega arith))
 
   behind-says : (n : ℕ) → n < 256 → Says (sent n (length front) (zone_behind front)) n (length front) (zone_behind front)
-  behind-says n low = sent-says n (length front) (zone_behind front) low (omega arith) behind-size
-
--- what is held is not carried on by a frame that says so
-abbrev Drops : OnDesk → ℕ → ℕ → List ℕ → List Event → Type 0
-Drops d n p zone es = (f : List ℕ) → Says f n p zone → Dropped d f es
-
--- by the first frame of a channel, whatever it says
-first-heard : (f : List ℕ) → Dropped unheard f []
-first-heard f = none-held (λ e. absurd (false≢true e)) refl
-
--- with nothing held and no frame missing
-next : (m n : ℕ) → n ≡ (m + 1) % 0x1000000 → {p : ℕ} {zone : List ℕ} → Drops (leaving [] m) n p zone []
-next m n follows f s = none-held (λ e. s.counter ∙ follows) refl
+  behind-says n low = sent-says n (length front) (zone_behind front) low (inl (omega arith)) behind-size
 
 module _ (list : List ℕ) (room : 900 ≤ length list) where
   -- its packet is read, after a drop or with nothing held
   behind : {w : World} {d : OnDesk} {xs ys : List Slot} {es js : List Event} (n : ℕ) → n < 256 → (front : List ℕ) → length front ≤ 856 → Waits w d xs
-      → Drops d n (length front) (zone_behind front) es → MakesOne xs whole ys js → said w (whole_behind n front list) ≡ es ++ js
+      → ((f : List ℕ) → Says f n (length front) (zone_behind front) → Dropped d f es)
+      → MakesOne xs whole ys js → said w (whole_behind n front list) ≡ es ++ js
   behind {d = d} {es = es} {js} n low front few L c does =
       let m = 865 - length front in
       let s = behind-says front few n low in
       let at : drop (length front) (zone_behind front) ≡ whole ++ fill m =
       ap (drop (length front)) (append_assoc front whole (fill m)) ∙ drop_at front (whole ++ fill m) (length front) refl in
-      (step L list room n (length front) (zone_behind front) low (inl (omega arith)) (behind-size front few) (whole ∷ fill m ∷ [])
+      (step n (length front) (zone_behind front) low (inl (omega arith)) (behind-size front few) L list room (whole ∷ fill m ∷ [])
       (anew s d (c (sent n (length front) (zone_behind front)) s) (whole ++ fill m) at)
       (behind-whole m (omega arith) (omega arith)) (with-fill m (omega arith) (omega arith) does)).1
       ∙ append-nil (es ++ js)
 
-  -- or nothing of its zone
-  passes : {w : World} {d : OnDesk} {xs : List Slot} {es : List Event} (n p : ℕ) → n < 256 → 884 ≤ p → (zone : List ℕ) → length zone ≡ 884
-      → Waits w d xs → Pointing w.station.edition p → Drops d n p zone es → Leaves w (frame (sent n p zone) list) (leaving [] n) xs es
-  unfolding flatten
-  passes {w} {d} {xs} {es} n p low high zone size L points c =
-      let s = sent-says n p zone low (pointing-few w.station.edition p points) size in
-      let (waits, told) = step L list room n p zone low points size []
-      (anew s d (c (sent n p zone) s) [] (drop_of_length-le zone {i = p} (omega arith)))
-      (to_end {held = []} tt (header (omega arith)) refl) (makes_none xs) in
-      (waits, told ∙ append-nil (es ++ []) ∙ append-nil es)
-
   module _ (x : Start) (q : Program x) where
-    -- the first frame, read from its start
-    starts : {held : List ℕ} {zs js : List Event} {xs : List Slot} (zone : List ℕ) → length zone ≡ 884
-        → (ps : List (List ℕ)) → Closes zone ps held zs → Makes none ps xs js
-        → Leaves (fresh x) (frame (sent 0 0 zone) list) (leaving held 0) xs (js ++ zs)
-    starts zone size ps c does =
-        step (fresh-waits x q) list room 0 0 zone (omega arith) (inl (omega arith)) size ps
-        (anew (sent-says 0 0 zone (omega arith) (omega arith) size) unheard (first-heard (sent 0 0 zone)) zone refl) c does
+    -- the first frame, read from its pointer on
+    starts : {held : List ℕ} {zs js : List Event} {xs : List Slot} (p : ℕ) → (p < 884) ⊎ (p ≡ 2047) → (zone ys : List ℕ) → length zone ≡ 884
+        → drop p zone ≡ ys → (ps : List (List ℕ)) → Closes ys ps held zs → Makes none ps xs js
+        → Leaves (fresh x) (frame (sent 0 p zone) list) (leaving held 0) xs (js ++ zs)
+    starts p points zone ys size at ps c does =
+        step 0 p zone (omega arith) points size (fresh-waits x q) list room ps
+        (anew (sent-says 0 p zone (omega arith) points size) unheard (none-held (λ e. absurd (false≢true e)) refl) ys at) c does
 
     -- fill, and octets that are held then
     begins-with : (m : ℕ) → 9 ≤ m → (xs : List ℕ) → m + length xs ≡ 884 → Unfinished xs
@@ -297,17 +273,8 @@ module _ (list : List ℕ) (room : 900 ≤ length list) where
     begins-with m some xs all u =
         let most : m ≤ 884 = omega arith in
         let zone = fill m ++ xs in
-        starts zone (omega (arith, length-append (fill m) xs, fill-size m some most)) (fill m ∷ [])
+        starts 0 (inl (omega arith)) zone zone (omega (arith, length-append (fill m) xs, fill-size m some most)) refl (fill m ∷ [])
         (after-fill m some most xs u) (makes-then (fill-makes m some most none) (makes_none none))
-
-    -- "Set-up names the edition", and no frame another
-    under : (fresh x).station.edition ≡ x.edition
-    unfolding run
-    under = edition-stays x []
-
-    then-under : (c : Call) → (after (fresh x) c).station.edition ≡ x.edition
-    unfolding run
-    then-under c = edition-stays x (c ∷ [])
 
     -- ten octets of a packet of nineteen
     ten-held : Leaves (fresh x) (ten_held list) (leaving (take 10 whole) 0) none []
@@ -326,7 +293,7 @@ module _ (list : List ℕ) (room : 900 ≤ length list) where
         let s = behind-says nine (omega arith) 1 (omega arith) in
         let all : flatten (whole ∷ whole ∷ fill 856 ∷ []) ++ [] ≡ take 10 whole ++ zone_behind nine =
         ap (λ (xs : List ℕ). whole ++ whole ++ xs) (append-nil (fill 856 ++ []) ∙ append-nil (fill 856)) in
-        (step ten-held.0 list room 1 9 (zone_behind nine) (omega arith) (inl (omega arith)) (behind-size nine (omega arith))
+        (step 1 9 (zone_behind nine) (omega arith) (inl (omega arith)) (behind-size nine (omega arith)) ten-held.0 list room
         (whole ∷ whole ∷ fill 856 ∷ [])
         (onward s (leaving (take 10 whole) 0) (record { lacked = 9; lacks = lacks-nine s; pointer = inl (omega arith, s.pointer) }))
         (to_end {held = []} (whole-whole, (whole-whole, (fill-whole 856 (omega arith) (omega arith), tt))) (header (omega arith)) all)
@@ -338,37 +305,30 @@ module _ (list : List ℕ) (room : 900 ≤ length list) where
     spoilt =
         let zone = whole ++ bad_header ++ whole ++ fill 840 in
         let size : length zone ≡ 884 = omega (arith, length-append (whole ++ bad_header ++ whole) (fill 840), fill-size 840 (omega arith) (omega arith)) in
-        starts zone size (whole ∷ [])
+        starts 0 (inl (omega arith)) zone zone size refl (whole ∷ [])
         (to-bad (bad_header ++ whole ++ fill 840) (whole-whole, tt) (bad-look (whole ++ fill 840)) refl)
         (makes-then opens-first (makes_none one))
 
-    -- three octets of a header
-    three-held : Leaves (fresh x) (three_held list) (leaving (take 3 bad_header) 0) none []
-    three-held = begins-with 881 (omega arith) (take 3 bad_header) refl (header (omega arith))
-
     -- no place to begin
     silent : Leaves (fresh x) (frame (sent 0 2047 (zone_behind [])) list) (leaving [] 0) none []
+    unfolding flatten
     silent =
-        passes 0 2047 (omega arith) (omega arith) (zone_behind []) (behind-size [] (omega arith)) (fresh-waits x q) (inr (inl refl))
-        (λ f s. first-heard f)
+        let size = behind-size [] (omega arith) in
+        starts 2047 (inr refl) (zone_behind []) [] size (drop_of_length-le (zone_behind []) {i = 2047} (omega arith)) []
+        (to_end {held = []} tt (header (omega arith)) refl) (makes_none none)
 
-    -- a frame between them that is refused for its pointer is as if it had not come
-    refused-between : (p : ℕ) → p < 2048 → pointer_meaning x.edition p ≡ Refused → (c : Call) {es : List Event}
-        → said (after (fresh x) (ten_held list)) c ≡ es → all_said (fresh x) (ten_held list ∷ frame (sent 1 p (zone_behind nine)) list ∷ c ∷ []) ≡ es
-    refused-between p few e c told =
-        let w = after (fresh x) (ten_held list) in
-        let f = sent 1 p (zone_behind nine) in
-        let points = (sent-says 1 p (zone_behind nine) (omega arith) few (behind-size nine (omega arith))).pointer in
-        let (same, none_said) = pointer-refused w f list (ap₂ pointer_meaning (then-under (ten_held list)) points ∙ e) in
-        said-first (fresh x) (ten_held list) (frame f list ∷ c ∷ []) ten-held.1
-        (both-said w (frame f list) c none_said (ap (λ (v : World). said v c) same ∙ told))
+    -- with nothing held and no frame missing
+    next : {p : ℕ} {zone : List ℕ} (f : List ℕ) → Says f 1 p zone → Dropped (leaving [] 0) f []
+    next f s = none-held (λ e. omega (arith, s.counter)) refl
 
     after-a-gap : said (after (fresh x) (ten_held list)) (whole_behind jumped nine list) ≡ bare 1 ∷ opens_at 0
     after-a-gap =
         behind jumped (omega arith) nine (omega arith) ten-held.0 (λ f s. by-gap refl (λ e. omega (arith, e, s.counter))) opens-first
 
     losses : Losses x list
+    unfolding all_said
     losses =
+        let three = begins-with 881 (omega arith) (take 3 bad_header) refl (header (omega arith)) in
         record {
           carried = then-ten (whole_behind 1 nine list) carries;
           gap = then-ten (whole_behind jumped nine list) after-a-gap;
@@ -377,73 +337,28 @@ module _ (list : List ℕ) (room : 900 ≤ length list) where
               (behind 1 (omega arith) ten (omega arith) ten-held.0
               (λ f s. by-pointer 9 (lacks-nine s) (⊎_elim (λ a. omega (arith, a.1, s.pointer)) (λ a. omega (arith, a.0)))) opens-first);
           bad-carried =
-              both-said (fresh x) (three_held list) (whole_behind 1 (drop 3 bad_header) list) three-held.1
-              (behind 1 (omega arith) (drop 3 bad_header) (omega arith) three-held.0
+              both-said (fresh x) (frame (sent 0 0 (fill 881 ++ take 3 bad_header)) list) (whole_behind 1 (drop 3 bad_header) list) three.1
+              (behind 1 (omega arith) (drop 3 bad_header) (omega arith) three.0
               (λ f s.
-              by-header (omega arith) (omega (arith, s.counter)) (λ e. omega (arith, e, s.pointer))
+              by-header (omega arith) (omega (arith, s.counter))
               (ap (λ (xs : List ℕ). look_of (take 3 bad_header ++ xs)) s.octets ∙ bad-look (whole ++ fill 862)))
               opens-first);
           bad-later =
               both-said (fresh x) (frame (sent 0 0 (whole ++ bad_header ++ whole ++ fill 840)) list) (whole_behind 1 [] list) spoilt.1
-              (behind 1 (omega arith) [] (omega arith) spoilt.0 (next 0 1 refl) opens-second);
-          no_start =
+              (behind 1 (omega arith) [] (omega arith) spoilt.0 next opens-second);
+          idle =
               both-said (fresh x) (frame (sent 0 2047 (zone_behind [])) list) (whole_behind 1 [] list) silent.1
-              (behind 1 (omega arith) [] (omega arith) silent.0 (next 0 1 refl) opens-first);
+              (behind 1 (omega arith) [] (omega arith) silent.0 next opens-first);
           refused =
-              refused-between 884 (omega arith) (else-refused x.edition 884 (omega arith) (λ e. omega arith) (λ e. omega arith))
-              (whole_behind jumped nine list) after-a-gap;
+              let w = after (fresh x) (ten_held list) in
+              let c = frame (sent 1 884 (zone_behind nine)) list in
+              let (same, none_said) = pointed-beyond w (sent 1 884 (zone_behind nine)) list (beyond 1 (zone_behind nine)) in
+              ap₂ ◌++◌ ten-held.1
+              (both-said w c (whole_behind jumped nine list) none_said (ap (λ (v : World). said v (whole_behind jumped nine list)) same ∙ after-a-gap));
           first_frame =
-              said-only (fresh x) (whole_behind 7 [] list)
-              (behind 7 (omega arith) [] (omega arith) (fresh-waits x q) (λ f s. first-heard f) opens-first);
+              append-nil (said (fresh x) (whole_behind 7 [] list))
+              ∙ behind 7 (omega arith) [] (omega arith) (fresh-waits x q) (λ f s. none-held (λ e. absurd (false≢true e)) refl) opens-first;
         }
-
-    -- an idle zone, under 732
-    module _ (later : x.edition.0 ≡ 732) where
-      idles : {w : World} {d : OnDesk} {es : List Event} (n : ℕ) → n < 256 → Waits w d none → w.station.edition ≡ x.edition
-          → Drops d n 2046 (zone_behind nine) es → Leaves w (idle_zone n list) (leaving [] n) none es
-      idles n low L same c =
-          passes n 2046 low (omega arith) (zone_behind nine) (behind-size nine (omega arith)) L
-          (inr (inr (refl, ap (λ (e : Edition). e.0) same ∙ later))) c
-
-      -- held octets, whatever they are
-      idle-drops : (held : List ℕ) → 0 < length held → Drops (leaving held 0) 1 2046 (zone_behind nine) (bare 2 ∷ [])
-      idle-drops held some f s = by-idle some (omega (arith, s.counter)) s.pointer
-
-      -- and then a whole packet, behind octets that nobody waits for
-      idle-between : (front : List ℕ) → length front ≤ 856
-          → all_said (fresh x) (ten_held list ∷ idle_zone 1 list ∷ whole_behind 2 front list ∷ []) ≡ bare 2 ∷ opens_at 0
-      idle-between front few =
-          let second = idles 1 (omega arith) ten-held.0 (then-under (ten_held list)) (idle-drops (take 10 whole) (omega arith)) in
-          said-first (fresh x) (ten_held list) (idle_zone 1 list ∷ whole_behind 2 front list ∷ []) ten-held.1
-          (both-said (after (fresh x) (ten_held list)) (idle_zone 1 list) (whole_behind 2 front list) second.1
-          (behind 2 (omega arith) front few second.0 (next 1 2 refl) opens-first))
-
-      idle-zones : IdleZones x list
-      idle-zones =
-          let only = idles 0 (omega arith) (fresh-waits x q) under (λ f s. first-heard f) in
-          record {
-            dropped = idle-between [] (omega arith);
-            not-kept = idle-between nine (omega arith);
-            header-not-read =
-                both-said (fresh x) (three_held list) (idle_zone 1 list) three-held.1
-                (idles 1 (omega arith) three-held.0 (then-under (three_held list)) (idle-drops (take 3 bad_header) (omega arith))).1;
-            gap-first =
-                then-ten (idle_zone jumped list)
-                (idles jumped (omega arith) ten-held.0 (then-under (ten_held list)) (λ f s. by-gap refl (λ e. omega (arith, e, s.counter)))).1;
-            none-held =
-                both-said (fresh x) (idle_zone 0 list) (whole_behind 1 [] list) only.1
-                (behind 1 (omega arith) [] (omega arith) only.0 (next 0 1 refl) opens-first);
-          }
 
 pub loss-runs : LossRuns
 loss-runs x q list room = losses list room x q
-
-pub idle-runs : IdleRuns
-idle-runs =
-    record {
-      passed_over = λ x q later list room. idle-zones list room x q later;
-      refused =
-          λ x q older list room.
-          refused-between list room x q 2046 (omega arith) (idle-refused x.edition 2046 (omega arith) (λ e. omega arith) (λ e. omega arith))
-          (whole_behind 1 nine list) (carries list room x q);
-    }

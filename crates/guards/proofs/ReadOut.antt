@@ -20,6 +20,7 @@ use Rattle.judge.specs.Judge.{data_of, first_slot}
 use Rattle.judge.specs.Packets.{Starts}
 use Rattle.judge.proofs.Parts.{begun-right}
 use Rattle.zone.specs.Zone.{split}
+use Rattle.zone.specs.Walk.{desk_after}
 use Rattle.zone.proofs.Readings.{reading-first}
 use Rattle.station.specs.SetUp.{channel_of}
 use Rattle.station.specs.declared.Told.TheVariants.{Known}
@@ -38,7 +39,7 @@ use Rattle.history.proofs.Carried.{pages-came}
 use Rattle.history.proofs.Facts.{facts-came}
 use Rattle.history.proofs.Headers.{headers-read}
 use Rattle.guards.specs.Sent.{sent, fill}
-use Rattle.guards.proofs.Sending.{desk_with, cut, Listens, makes_none, step, brings-packets}
+use Rattle.guards.proofs.Sending.{accepts, cut, Listens, makes_none, step, brings-packets}
 use Rattle.guards.proofs.Making.{MakesOne, makes-then}
 use Rattle.guards.proofs.Packets.{head_of, file_at, numbered, fill-makes}
 
@@ -62,7 +63,7 @@ module _ (x : Start) (m L l n : ℕ) (p list : List ℕ) (listed : 900 ≤ lengt
   calls = frame (sent 0 0 (p ++ fill n)) list ∷ []
 
   later : List Thing
-  later = packet (channel_of 2) (fill n) ∷ left 2 (desk_with 0 0) ∷ []
+  later = packet (channel_of 2) (fill n) ∷ left 2 (desk_after (accepts 0 0) 0) ∷ []
 
   going : incomplete (file_at 5 L 0) ≡ false
   unfolding incomplete
@@ -74,7 +75,7 @@ module _ (x : Start) (m L l n : ℕ) (p list : List ℕ) (listed : 900 ≤ lengt
   follows : follow 0 (file_at 5 L 0) later ≡ Still (file_at 5 L 0)
   unfolding later follow fate
   follows =
-      follow-on 0 (file_at 5 L 0) (packet (channel_of 2) (fill n)) (left 2 (desk_with 0 0) ∷ [])
+      follow-on 0 (file_at 5 L 0) (packet (channel_of 2) (fill n)) (left 2 (desk_after (accepts 0 0) 0) ∷ [])
       (stays (file_at 5 L 0) going (channel_of 2) (fill n) 0)
 
   came : CameInRun x calls 0 (file_at 5 L 0)
@@ -91,7 +92,7 @@ module _ (x : Start) (m L l n : ℕ) (p list : List ℕ) (listed : 900 ≤ lengt
         file = numbered m L;
         split =
             append-nil (things w (frame (sent 0 0 zone) list))
-            ∙ brings-packets L₀ (omega arith) 0 (inl (omega arith)) zone list size listed zone (reading-first (fresh x).station.edition zone) (p ∷ fill n ∷ []) [] cuts;
+            ∙ brings-packets L₀ (omega arith) 0 (inl (omega arith)) zone list size listed zone (reading-first zone) (p ∷ fill n ∷ []) [] cuts;
         starts = starts;
         opened = rw (app, (opens.from w.station w.store L₀.slots L₀.blocks).1) (Memᴰ.head refl);
         followed = ap (λ (y : Slot). follow 0 y later) file-is ∙ follows;
@@ -100,7 +101,7 @@ module _ (x : Start) (m L l n : ℕ) (p list : List ℕ) (listed : 900 ≤ lengt
   only : added 0 (file_at 5 L 0) later ≡ []
   unfolding later added fate
   only =
-      added-on 0 (file_at 5 L 0) (packet (channel_of 2) (fill n)) (left 2 (desk_with 0 0) ∷ [])
+      added-on 0 (file_at 5 L 0) (packet (channel_of 2) (fill n)) (left 2 (desk_after (accepts 0 0) 0) ∷ [])
       (stays (file_at 5 L 0) going (channel_of 2) (fill n) 0)
       ∙ rw (never-adds (file_at 5 L 0) going (channel_of 2) (fill n))
 
@@ -113,7 +114,7 @@ module _ (x : Start) (m L l n : ℕ) (p list : List ℕ) (listed : 900 ≤ lengt
   done =
       let zone = p ++ fill n in
       let ys = file_at 5 L 0 ∷ replicate 31 no_file in
-      let (v, t) = step L₀ (omega arith) 0 (inl (omega arith)) zone list size listed zone (reading-first (fresh x).station.edition zone) (p ∷ fill n ∷ []) [] cuts 1 refl
+      let (v, t) = step L₀ (omega arith) 0 (inl (omega arith)) zone list size listed zone (reading-first zone) (p ∷ fill n ∷ []) [] cuts 1 refl
       (makes-then opens (makes-then (fill-makes n some most ys) (makes_none ys))) in
       ap (λ (zs : List Slot). complete (get_or zs 0 no_file)) v.slots ∙ rw one
 

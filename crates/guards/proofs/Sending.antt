@@ -17,16 +17,15 @@ use Rattle.octets.proofs.Lists.{if-cases, part-add}
 use Rattle.noise.proofs.Mixing.{length-mixed, mixed-twice}
 use Rattle.frame.specs.declared.Accepted.{Accepted}
 use Rattle.frame.specs.declared.Channel.{Channel}
-use Rattle.frame.specs.declared.Edition.{Edition}
 use Rattle.frame.specs.declared.Examined.TheVariants.{Good}
 use Rattle.frame.specs.declared.Frame.{Frame}
 use Rattle.frame.specs.declared.Pointer.TheVariants as pointer
 use Rattle.frame.specs.declared.Watch.TheVariants as watch
 use Rattle.frame.specs.Kinds.{counter_follows, desk_of, desk_from}
 use Rattle.frame.specs.Header.{starts_with, derandomised, frame_of, zone_of, pointer_meaning}
-use Rattle.frame.specs.Refusals.{sized_and_marked, examined_header, examined}
+use Rattle.frame.specs.Refusals.{sized_and_marked, examined_header}
 use Rattle.frame.proofs.Framing.{is_framed}
-use Rattle.frame.proofs.Pointers.{Means, means}
+use Rattle.frame.proofs.Pointers.{below-offset, no_start}
 use Rattle.frame.proofs.Answers.{accepted, of-header}
 use Rattle.packet.specs.declared.Packet.{Packet}
 use Rattle.packet.specs.declared.Look.TheVariants as look
@@ -38,7 +37,7 @@ use Rattle.state.specs.declared.Station.{Station}
 use Rattle.state.specs.Slots.{desk_at, empty_desk}
 use Rattle.events.specs.Event.{Event}
 use Rattle.zone.specs.Zone.{Split, split, Reading, agrees, reading}
-use Rattle.zone.specs.Walk.{judged_all, gap, held_at, reading_of, with_held, with_desk, Walked, walked, walked_by, walked_from}
+use Rattle.zone.specs.Walk.{desk_after, judged_all, gap, held_at, reading_of, with_held, with_desk, Walked, walked, walked_by, walked_from}
 use Rattle.zone.proofs.Split.{split-part, split-left, unfinished-few}
 use Rattle.zone.proofs.Readings.{Agrees, agrees-exactly, reading-first, reading-on, reading-seamless}
 use Rattle.zone.proofs.Walks.{all-stays, all-sized, held-now, walked_from_lem}
@@ -77,43 +76,48 @@ four-desk (suc (suc (suc (suc c)))) l = absurd (omega arith)
 abbrev headed : ℕ → ℕ → ℕ → Frame
 headed c n p = record { version = 1; spacecraft = 1; channel = channel_of c; counter = record { 0 = n }; pointer = p }
 
-abbrev pub accepts_on : Edition → ℕ → ℕ → ℕ → Accepted
-accepts_on edition c n p = record { desk = c; counter = record { 0 = n }; pointer = pointer_meaning edition p }
+abbrev pub accepts_on : ℕ → ℕ → ℕ → Accepted
+accepts_on c n p = record { desk = c; counter = record { 0 = n }; pointer = pointer_meaning p }
 
--- the pointers that are let in: 2046 by 732 alone
-abbrev pub Pointing : Edition → ℕ → Type 0
-Pointing edition p = (p < 884) ⊎ ((p ≡ 2047) ⊎ ((p ≡ 2046) × (edition.0 ≡ 732)))
+abbrev pub accepts : ℕ → ℕ → Accepted
+accepts n p = accepts_on 2 n p
 
-module _ (edition : Edition) (p : ℕ) (points : Pointing edition p) where
-  -- eleven bits are enough for them
-  pub pointing-few : p < 2048
-  pointing-few = ⊎_elim (λ l. omega arith) (⊎_elim (λ e. omega arith) (λ e. omega (arith, e.0))) points
-
-  allowed : pointer_meaning edition p ≡ pointer.Refused → ⊥
-  allowed e =
-      let (from, other, later) = subst (Means edition p) e (means edition p) in
-      ⊎_elim (λ l. omega arith) (⊎_elim other later) points
+abbrev Pointing : ℕ → Type 0
+Pointing p = (p < 884) ⊎ (p ≡ 2047)
 
 -- a frame that is sent is read as it was meant
-module _ (c n p : ℕ) (zone : List ℕ) where
-  sent-plain : derandomised (sent_on c n p zone) ≡ plain c n p zone
-  unfolding derandomised
-  sent-plain = mixed-twice (plain c n p zone)
-
-  pub header-sent : c < 4 → n < 256 → p < 2048 → frame_of (derandomised (sent_on c n p zone)) ≡ headed c n p
+module _ (c n p : ℕ) (zone : List ℕ) (watched : c < 4) (low : n < 256) (points : Pointing p) where
+  pub header-sent : frame_of (plain c n p zone) ≡ headed c n p
   unfolding frame_of bits_at number
-  header-sent watched low few =
+  header-sent =
+      let few : p < 2048 = ⊎_elim (λ l. omega arith) (λ e. omega arith) points in
       let h = take 8 (plain c n p zone) in
       let a : bits_at h 0 2 ≡ 1 = omega arith in
       let b : bits_at h 2 8 ≡ 1 = omega arith in
       let d : bits_at h 10 6 ≡ c = omega arith in
       let e : bits_at h 16 24 ≡ n = omega arith in
       let f : bits_at h 53 11 ≡ p = omega arith in
-      ap frame_of sent-plain
-      ∙ (λ i. record { version = a i; spacecraft = b i; channel = record { 0 = d i }; counter = record { 0 = e i }; pointer = f i })
+      λ i. record { version = a i; spacecraft = b i; channel = record { 0 = d i }; counter = record { 0 = e i }; pointer = f i }
+
+  pub sent-plain : derandomised (sent_on c n p zone) ≡ plain c n p zone
+  unfolding derandomised
+  sent-plain = mixed-twice (plain c n p zone)
+
+  allowed : pointer_meaning p ≡ pointer.Refused → ⊥
+  allowed e =
+      ⊎_elim
+      (λ l.
+      let m : pointer_meaning p ≡ pointer.Offset p = below-offset p l in
+      let z : ◌≡◌ {A = ℕ} 0 1 = cc in
+      omega arith)
+      (λ q.
+      let m : pointer_meaning p ≡ pointer.NoStart = no_start p q in
+      let z : ◌≡◌ {A = ℕ} 0 1 = cc in
+      omega arith)
+      points
 
   module _ (size : length zone ≡ 884) where
-    sent-framed : sized_and_marked (sent_on c n p zone) ≡ true
+    pub sent-framed : sized_and_marked (sent_on c n p zone) ≡ true
     unfolding starts_with
     sent-framed =
         is_framed (sent_on c n p zone)
@@ -123,19 +127,16 @@ module _ (c n p : ℕ) (zone : List ℕ) where
     unfolding zone_of
     zone-sent = ap zone_of sent-plain ∙ take_at zone (replicate 128 0) 884 size
 
-    -- and accepted, under either edition
-    pub sent-good : (edition : Edition) → c < 4 → n < 256 → Pointing edition p
-        → examined edition 1 (take 4 four) (sent_on c n p zone) ≡ Good (accepts_on edition c n p)
-    sent-good edition watched low points =
-        of-header edition 1 (take 4 four) (sent_on c n p zone) sent-framed
-        ∙ ap (examined_header edition 1 (take 4 four)) (header-sent watched low (pointing-few edition p points))
-        ∙ accepted edition 1 (take 4 four) (headed c n p) (accepts_on edition c n p)
+    pub sent-good : examined_header 1 (take 4 four) (frame_of (derandomised (sent_on c n p zone))) ≡ Good (accepts_on c n p)
+    sent-good =
+        ap (λ (xs : List ℕ). examined_header 1 (take 4 four) (frame_of xs)) sent-plain ∙ ap (examined_header 1 (take 4 four)) header-sent
+        ∙ accepted 1 (take 4 four) (headed c n p) (accepts_on c n p)
         (record {
           version = refl;
           spacecraft = refl;
           no-fill = λ e. omega arith;
           desk = four-desk c watched;
-          allowed = allowed edition p points;
+          allowed = allowed;
           counter = refl;
           pointer = refl;
         })
@@ -173,60 +174,56 @@ makes_none xs = record { from = λ s store e b. (e, refl) }
 abbrev pub cut : List (List ℕ) → List ℕ → Split
 cut ps rest = record { packets = ps; bad = false; left = rest }
 
--- a desk whose last counter is n, and that holds k octets
-abbrev pub desk_with : ℕ → ℕ → Desk
-desk_with n k = record { held = k; seen = true; counter = record { 0 = n } }
-
-no_gap : (n m k : ℕ) → n < 256 → m ≡ n + 1 → gap (desk_with n k) (record { 0 = m }) ≡ false
+no_gap : (c n p m k : ℕ) → n < 256 → m ≡ n + 1 → gap (desk_after (accepts_on c n p) k) (record { 0 = m }) ≡ false
 unfolding gap counter_follows
-no_gap n m k low e =
+no_gap c n p m k low e =
     let q : m ≡ (n + 1) % 0x1000000 = omega arith in
     rw (eq-eqb m ((n + 1) % 0x1000000) q)
 
 -- a frame: the octets that it adds to those held are cut into packets, and what is left is held
-module _ {c : ℕ} {w : World} {n : ℕ} {octets : List ℕ} {xs : List Slot} (L : ListensOn c w n octets xs) (low : n < 256) (p : ℕ)
-    (points : Pointing w.station.edition p) (zone list : List ℕ) (size : length zone ≡ 884) (room : 900 ≤ length list) where
+module _ {c : ℕ} {w : World} {n : ℕ} {octets : List ℕ} {xs : List Slot} (L : ListensOn c w n octets xs) (low : n < 256) (p : ℕ) (points : Pointing p)
+    (zone list : List ℕ) (size : length zone ≡ 884) (room : 900 ≤ length list) where
   here : Call
   here = frame (sent_on c n p zone) list
 
-  abbrev its : Accepted
-  its = accepts_on w.station.edition c n p
-
-  good : examined_in w (sent_on c n p zone) ≡ Good its
-  good = rw (L.craft, L.channels, L.watched) (sent-good c n p zone size w.station.edition L.named low points)
+  good : examined_in w (sent_on c n p zone) ≡ Good (accepts_on c n p)
+  good =
+      rw (L.craft, L.channels, L.watched)
+      (of-header 1 (take 4 four) (sent_on c n p zone) (sent-framed c n p zone L.named low points size) ∙ sent-good c n p zone L.named low points size)
 
   takes : Taken w (sent_on c n p zone) list
   takes = (sound-takes L.sound (sent_on c n p zone) list good room).0
 
-  same : takes.frame ≡ its
+  same : takes.frame ≡ accepts_on c n p
   unfolding takes
   same = (sound-takes L.sound (sent_on c n p zone) list good room).1
 
-  module _ (ys : List ℕ) (reads : reading octets zone (pointer_meaning w.station.edition p) ≡ record { events = []; octets = ys }) where
+  module _ (ys : List ℕ) (reads : reading octets zone (pointer_meaning p) ≡ record { events = []; octets = ys }) where
     its-channel : channel_at w.station c ≡ channel_of c
     its-channel = ap (λ (cs : List Channel). get_or cs c (channel_of 0)) L.watched ∙ four-at c L.named
 
-    read_here : reading_of w.station w.desks (zone_of (derandomised (sent_on c n p zone))) its ≡ record { events = []; octets = ys }
+    read_here : reading_of w.station w.desks (zone_of (derandomised (sent_on c n p zone))) (accepts_on c n p) ≡ record { events = []; octets = ys }
     read_here =
         let s = w.station in
-        ap (λ (zs : List ℕ). reading_of s w.desks zs its) (zone-sent c n p zone size)
-        ∙ reading-seamless s w.desks zone its L.seamless ∙ ap (λ (hs : List ℕ). reading hs zone its.pointer) L.holds ∙ reads
+        ap (λ (zs : List ℕ). reading_of s w.desks zs (accepts_on c n p)) (zone-sent c n p zone L.named low points size)
+        ∙ reading-seamless s w.desks zone (accepts_on c n p) L.seamless ∙ ap (λ (hs : List ℕ). reading hs zone (pointer_meaning p)) L.holds ∙ reads
 
     walks : walked (channel_at w.station takes.frame.desk) w.station w.desks w.store (zone_of (derandomised (sent_on c n p zone))) takes.frame
-        ≡ walked_from (channel_of c) w.station w.desks w.store its [] ys
+        ≡ walked_from (channel_of c) w.station w.desks w.store (accepts_on c n p) [] ys
     walks =
         let s = w.station in
+        let a = accepts_on c n p in
         let z = zone_of (derandomised (sent_on c n p zone)) in
         ap (λ (b : Accepted). walked (channel_at s b.desk) s w.desks w.store z b) same
-        ∙ walked_from_lem (channel_at s c) s w.desks w.store its z
-        ∙ ap₂ (λ (ch : Channel) (r : Reading). walked_from ch s w.desks w.store its r.events r.octets) its-channel read_here
+        ∙ walked_from_lem (channel_at s c) s w.desks w.store a z
+        ∙ ap₂ (λ (ch : Channel) (r : Reading). walked_from ch s w.desks w.store a r.events r.octets) its-channel read_here
 
     module _ (ps : List (List ℕ)) (rest : List ℕ) (cuts : split ys ≡ cut ps rest) where
       next : World
       next =
           let j = judged_all (channel_of c) w.station w.store ps in
           record {
-            station = with_desk j.station c (desk_with n (length rest));
+            station = with_desk j.station c (desk_after (accepts_on c n p) (length rest));
             desks = with_held w.desks c rest;
             store = j.store;
           }
@@ -236,14 +233,14 @@ module _ {c : ℕ} {w : World} {n : ℕ} {octets : List ℕ} {xs : List Slot} (L
       comes =
           let s = w.station in
           ap (λ (r : FrameOutcome). record { station = r.station; desks = r.desks; store = r.store })
-          (takes.gives ∙ ap (taken s list) (walks ∙ ap (walked_by (channel_of c) s w.desks w.store its []) cuts))
+          (takes.gives ∙ ap (taken s list) (walks ∙ ap (walked_by (channel_of c) s w.desks w.store (accepts_on c n p) []) cuts))
 
       -- its things: the packets, and then its desk
       pub brings-packets : things w (frame (sent_on c n p zone) list)
-          ≡ map (packet (channel_of c)) ps ++ (left c (desk_with n (length rest)) ∷ [])
+          ≡ map (packet (channel_of c)) ps ++ (left c (desk_after (accepts_on c n p) (length rest)) ∷ [])
       brings-packets =
           let in_order : Channel → Split → List Thing =
-          λ ch sp. map (packet ch) sp.packets ++ (left c (desk_with n (length sp.left)) ∷ []) in
+          λ ch sp. map (packet ch) sp.packets ++ (left c (desk_after (accepts_on c n p) (length sp.left)) ∷ []) in
           things-taken w takes ∙ ap (λ (a : Accepted). framed_things w (sent_on c n p zone) (Good a)) same
           ∙ ap₂ in_order its-channel (ap (λ (r : Reading). split r.octets) read_here ∙ cuts)
 
@@ -252,7 +249,7 @@ module _ {c : ℕ} {w : World} {n : ℕ} {octets : List ℕ} {xs : List Slot} (L
       tells =
           let s = w.station in
           said-taken w takes
-          ∙ ap (λ (v : Walked). v.events) (walks ∙ ap (walked_by (channel_of c) s w.desks w.store its []) cuts)
+          ∙ ap (λ (v : Walked). v.events) (walks ∙ ap (walked_by (channel_of c) s w.desks w.store (accepts_on c n p) []) cuts)
           ∙ append-nil (judged_all (channel_of c) s w.store ps).events
 
       pub step : (m : ℕ) → m ≡ n + 1 → {zs : List Slot} {es : List Event} → MakesOn c xs ps zs es
@@ -263,7 +260,7 @@ module _ {c : ℕ} {w : World} {n : ℕ} {octets : List ℕ} {xs : List Slot} (L
           let j = judged_all (channel_of c) s w.store ps in
           let a = all-stays (channel_of c) s w.store ps in
           let made = does.from s w.store L.slots L.blocks in
-          let d = desk_with n (length rest) in
+          let d = desk_after (accepts_on c n p) (length rest) in
           let z = all-sized (channel_of c) s w.store ps L.sound.sized in
           let desk : desk_at (with_desk j.station c d) c ≡ d = get_or-set_same j.station.desks c d empty_desk (omega (arith, z.desks, L.named)) in
           let few : length rest ≤ 8198 = omega (arith, ap (λ (sp : Split). length sp.left) cuts, unfinished-few (split-left ys)) in
@@ -276,7 +273,7 @@ module _ {c : ℕ} {w : World} {n : ℕ} {octets : List ℕ} {xs : List Slot} (L
             watched = a.watched ∙ L.watched;
             blocks = a.blocks ∙ L.blocks;
             slots = made.0;
-            seamless = rw desk (no_gap n m (length rest) low e);
+            seamless = rw desk (no_gap c n p m (length rest) low e);
             holds = rw desk (held-now w.desks c rest few (omega (arith, L.sound.desked, L.channels, L.named)));
             silent =
                 λ i above.
@@ -293,14 +290,13 @@ abbrev pub Brings : World → List Call → ℕ → List Slot → List Event →
 Brings w cs n ys es = BringsOn 2 w cs n ys es
 
 -- "the pointer must be r if r is below 884, and 2047 otherwise"
-agrees-right : (edition : Edition) (r : ℕ) → agrees r (pointer_meaning edition (if ltb r 884 then r else 2047)) ≡ true
-agrees-right edition r =
-    said-true (agrees-exactly edition r (if ltb r 884 then r else 2047)) (if-cases (Agrees r) (ltb r 884) (λ e. inl (ltb-true r 884 e, refl)) (λ e. inr (ltb-false r 884 e, refl)))
+agrees-right : (r : ℕ) → agrees r (pointer_meaning (if ltb r 884 then r else 2047)) ≡ true
+agrees-right r = said-true (agrees-exactly r (if ltb r 884 then r else 2047)) (if-cases (Agrees r) (ltb r 884) (λ e. inl (ltb-true r 884 e, refl)) (λ e. inr (ltb-false r 884 e, refl)))
 
-points-right : (edition : Edition) (j : ℕ) → Pointing edition (pointer_at j)
-points-right edition zero = inl (omega arith)
-points-right edition (suc j) =
-    if-cases (Pointing edition) (ltb (8198 - 884 * suc j) 884) (λ e. inl (ltb-true (8198 - 884 * suc j) 884 e)) (λ e. inr (inl refl))
+points-right : (j : ℕ) → Pointing (pointer_at j)
+points-right zero = inl (omega arith)
+points-right (suc j) =
+    if-cases Pointing (ltb (8198 - 884 * suc j) 884) (λ e. inl (ltb-true (8198 - 884 * suc j) 884 e)) (λ e. inr refl)
 
 -- ten frames that carry a packet of 8,198 octets, and others behind it
 module _ (n : ℕ) (room : n + 10 ≤ 256) (octets list : List ℕ) (size : length octets ≡ 8840) (listed : 900 ≤ length list)
@@ -340,15 +336,14 @@ module _ (n : ℕ) (room : n + 10 ≤ 256) (octets list : List ℕ) (size : leng
   front-all = take_all 8840 octets (omega arith)
 
   -- the packet is carried on
-  carried_on : (edition : Edition) (j : ℕ) → j < 9
-      → reading (front (suc j)) (part (884 * suc j) 884 octets) (pointer_meaning edition (pointer_at (suc j)))
-      ≡ record { events = []; octets = front (suc (suc j)) }
-  carried_on edition j l =
+  carried_on : (j : ℕ) → j < 9
+      → reading (front (suc j)) (part (884 * suc j) 884 octets) (pointer_meaning (pointer_at (suc j))) ≡ record { events = []; octets = front (suc (suc j)) }
+  carried_on j l =
       let zone = part (884 * suc j) 884 octets in
       let k : size_of h - length (front (suc j)) ≡ 8198 - 884 * suc j = omega (arith, front_long (suc j) (omega arith)) in
-      reading-on (front (suc j)) zone (pointer_meaning edition (pointer_at (suc j))) (omega (arith, front_long (suc j) (omega arith)))
+      reading-on (front (suc j)) zone (pointer_meaning (pointer_at (suc j))) (omega (arith, front_long (suc j) (omega arith)))
       (ap look_of (front-next (suc j)) ∙ front-look (suc j) (omega arith))
-      (rw k (agrees-right edition (8198 - 884 * suc j)))
+      (rw k (agrees-right (8198 - 884 * suc j)))
       ∙ ap (λ (zs : List ℕ). record { events = []; octets = zs }) (front-next (suc j))
 
   carry : (m j : ℕ) → j + m ≡ 8 → (w : World) → ListensOn c w (n + suc j) (front (suc j)) xs
@@ -358,15 +353,15 @@ module _ (n : ℕ) (room : n + 10 ≤ 256) (octets list : List ℕ) (size : leng
       let zone = part (884 * suc j) 884 octets in
       let q : suc (suc j) ≡ 10 = omega arith in
       let (v, t) =
-      step L (omega arith) (pointer_at (suc j)) (points-right w.station.edition (suc j)) zone list (zone-long (suc j) (omega arith)) listed
-      (front (suc (suc j))) (carried_on w.station.edition j (omega arith)) ps [] (ap (λ (i : ℕ). split (front i)) q ∙ ap split front-all ∙ cuts)
+      step L (omega arith) (pointer_at (suc j)) (points-right (suc j)) zone list (zone-long (suc j) (omega arith)) listed
+      (front (suc (suc j))) (carried_on j (omega arith)) ps [] (ap (λ (i : ℕ). split (front i)) q ∙ ap split front-all ∙ cuts)
       (n + 10) (omega arith) does in
       record { listens = v; tells = append-nil (said w (frame (sent_on c (n + suc j) (pointer_at (suc j)) zone) list)) ∙ t }
   carry (suc m) j e w L =
       let zone = part (884 * suc j) 884 octets in
       let (v, t) =
-      step L (omega arith) (pointer_at (suc j)) (points-right w.station.edition (suc j)) zone list (zone-long (suc j) (omega arith)) listed
-      (front (suc (suc j))) (carried_on w.station.edition j (omega arith)) [] (front (suc (suc j))) (front-part (suc j) (omega arith))
+      step L (omega arith) (pointer_at (suc j)) (points-right (suc j)) zone list (zone-long (suc j) (omega arith)) listed
+      (front (suc (suc j))) (carried_on j (omega arith)) [] (front (suc (suc j))) (front-part (suc j) (omega arith))
       (n + suc (suc j)) (omega arith) (makes_none xs) in
       let b = carry m (suc j) (omega arith) (after w (frame (sent_on c (n + suc j) (pointer_at (suc j)) zone) list)) v in
       record { listens = b.listens; tells = rw t b.tells }
@@ -378,6 +373,6 @@ module _ (n : ℕ) (room : n + 10 ≤ 256) (octets list : List ℕ) (size : leng
       let zone = part (884 * 0) 884 octets in
       let (v, t) =
       step (subst (λ (i : ℕ). ListensOn c w i [] xs) k L) (omega arith) 0 (inl (omega arith)) zone list (zone-long 0 (omega arith)) listed
-      zone (reading-first w.station.edition zone) [] zone (front-part 0 (omega arith)) (n + 1) (omega arith) (makes_none xs) in
+      zone (reading-first zone) [] zone (front-part 0 (omega arith)) (n + 1) (omega arith) (makes_none xs) in
       let b = carry 8 0 refl (after w (frame (sent_on c (n + 0) 0 zone) list)) v in
       record { listens = b.listens; tells = rw t b.tells }

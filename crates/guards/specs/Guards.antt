@@ -2,8 +2,6 @@
 -- Assumes nothing.
 use Rattle.std.specs.Prelude.{◌≡◌, true, false, List, [], ◌∷◌, ◌++◌, ℕ, ◌+◌, ◌≤◌, length}
 use Rattle.octets.specs.Number.{Octets}
-use Rattle.frame.specs.declared.Edition.{Edition}
-use Rattle.frame.specs.Kinds.{good_edition}
 use Rattle.records.specs.declared.HeaderAnswer.{HeaderAnswer}
 use Rattle.records.specs.declared.HeaderRead.TheVariants.{Read}
 use Rattle.records.specs.declared.ImageStructure.TheVariants as image
@@ -21,7 +19,7 @@ use Rattle.history.specs.Run.Call.{frame, read, let-go}
 use Rattle.history.specs.Calls.{result_of, reported, told_in}
 use Rattle.history.specs.Store.{Moment}
 use Rattle.history.specs.Headers.{whole_read}
-use Rattle.guards.specs.Losses.{LossRuns, IdleRuns}
+use Rattle.guards.specs.Losses.{LossRuns}
 use Rattle.guards.specs.Sent.{Program, sent, ten_frames_on, ten_frames, all_said, first, middle, tiny, last, fill, whole_of, whole, damaged, reserved, header_alone, twelve_bits}
 
 -- the lengths of these files in bits: N = 2, 3, 5 and 7, and the last packet has one octet
@@ -110,7 +108,7 @@ read_out x cs = result_of (run (fresh x) cs) (whole_read (run (fresh x) cs) 0)
 abbrev pub header_read_out : Start → List Call → HeaderAnswer
 header_read_out x cs = read_header (read_out x cs)
 
--- what these runs give, from any set-up of the program, of either edition, and with any list of the size that is asked for
+-- what these runs give, from any set-up of the program and with any list of the size that is asked for
 pub record Runs (x : Start) (list : List ℕ) : Type 0 where
   pub is-published : all_said (fresh x) (published list) ≡ at 10 5 0 ∷ at 12 5 0 ∷ []
   pub completed : all_said (fresh x) (two_packets list) ≡ at 10 5 0 ∷ at 12 5 0 ∷ []
@@ -144,12 +142,10 @@ pub record Runs (x : Start) (list : List ℕ) : Type 0 where
       ≡ Read (record { primary = record { filetype = 2; length = 16; bits = 0 }; image = image.Absent; navigation = navigation.Absent; time = time.Absent; segment = segment.Absent })
 
 pub record Guards : Type 0 where
-  -- there is such a set-up, under each edition
-  pub set-up : (edition : Edition) → good_edition edition ≡ true → (x : Start) × Program x × (x.edition ≡ edition)
+  -- there is such a set-up
+  pub set-up : (x : Start) × Program x
   -- there is a moment at which a packet that starts a file is judged, on a frame of octets
   pub moment : (m : Moment) × Octets m.sent × (t : Transport) × Starts m.p t
   pub runs : (x : Start) → Program x → (list : List ℕ) → 900 ≤ length list → Runs x list
   -- and runs in which octets are lost
   pub losses : LossRuns
-  -- and runs with pointer 2046
-  pub idle-zones : IdleRuns

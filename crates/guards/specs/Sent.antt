@@ -10,8 +10,7 @@ use Rattle.history.specs.Run.{World, Call, after, Start}
 use Rattle.history.specs.Run.Call.{frame}
 use Rattle.history.specs.Things.{said}
 
--- "The program uses spacecraft 1, channels 0 to 3, seven blocks." The edition may be either: "Frames with any other pointer are answered alike"
--- (02, 6/14)
+-- "The program uses spacecraft 1, channels 0 to 3, seven blocks."
 pub record Program (x : Start) : Type 0 where
   pub spacecraft : x.spacecraft ≡ 1
   pub channels : x.channels ≡ 0 ∷ 1 ∷ 2 ∷ 3 ∷ []

@@ -2,7 +2,6 @@
 use Rattle.std.specs.Prelude.{List, ◌++◌, ℕ}
 use Rattle.text.specs.Pieces.{ascii, spaced}
 use Rattle.text.specs.Lines.{spaced_three}
-use Rattle.frame.specs.declared.Edition.{Edition}
 use Rattle.frame.specs.declared.Frame.{Frame}
 use Rattle.frame.specs.declared.Pointer.{Pointer}
 use Rattle.frame.specs.declared.Pointer.TheVariants as pointer
@@ -14,18 +13,17 @@ use Rattle.packet.specs.declared.Look.TheVariants as look
 use Rattle.packet.specs.Header.{size_of}
 use Rattle.packet.specs.Kinds.{kind_of}
 
--- "then `at` and the offset, or `refused`, or `none`: what the pointer means under edition 701"; another edition has idle zones too
+-- "then `at` and the offset, or `refused`, or `none`: what the pointer means"
 unfoldable pub meaning_text : Pointer → List ℕ
 meaning_text (pointer.Offset offset) = ascii " at" ++ spaced offset
 meaning_text pointer.Refused = ascii " refused"
 meaning_text pointer.NoStart = ascii " none"
-meaning_text pointer.Idle = ascii " idle"
 
 -- F: "`F version spacecraft channel counter pointer`", then what the pointer means
-unfoldable pub frame_text : Edition → Frame → List ℕ
-frame_text edition f =
+unfoldable pub frame_text : Frame → List ℕ
+frame_text f =
     ascii "F" ++ spaced_three f.version f.spacecraft f.channel.0 ++ spaced f.counter.0
-    ++ (spaced f.pointer ++ meaning_text (pointer_meaning edition f.pointer))
+    ++ (spaced f.pointer ++ meaning_text (pointer_meaning f.pointer))
 
 -- "kind is `file` (up to 2015), `other` (2016 to 2046) or `fill` (2047)"
 unfoldable pub kind_text : Kind → List ℕ

@@ -7,16 +7,16 @@ ghost use Rattle.text.specs.Pieces.{Written, spaced};
 ghost use Rattle.frame.specs.Header.{pointer_meaning};
 ghost use Rattle.heads.specs.Heads.{meaning_text, frame_text, kind_text, packet_text};
 
-use frame::{Edition, Frame, Pointer};
+use frame::{Frame, Pointer};
 use packet::{Kind, Look, Packet};
 
 // The pointer and what it means.
-fn pointer_answer(edition: Edition, pointer: u16, out: &mut [u8], at: usize) -> usize
+fn pointer_answer(pointer: u16, out: &mut [u8], at: usize) -> usize
     requires { at + 45 ≤ length out.old }
-    ensures { (result ≤ at + 45) × Written out.old at (spaced pointer ++ meaning_text (pointer_meaning edition pointer)) out.new result }
+    ensures { (result ≤ at + 45) × Written out.old at (spaced pointer ++ meaning_text (pointer_meaning pointer)) out.new result }
 {
     let end = text::number(pointer as u64, out, at);
-    let m = frame::meaning(edition, pointer);
+    let m = frame::meaning(pointer);
     match m {
         Pointer::Offset(offset) => {
             return text::with_number(b" at", offset as u64, out, end);
@@ -24,18 +24,15 @@ fn pointer_answer(edition: Edition, pointer: u16, out: &mut [u8], at: usize) -> 
         Pointer::NoStart => {
             return text::word(b" none", out, end);
         }
-        Pointer::Idle => {
-            return text::word(b" idle", out, end);
-        }
         Pointer::Refused => {
             return text::word(b" refused", out, end);
         }
     }
 }
 
-pub fn frame_answer(edition: Edition, f: Frame, out: &mut [u8]) -> usize
+pub fn frame_answer(f: Frame, out: &mut [u8]) -> usize
     requires { length out.old ≡ 2051 }
-    ensures { (result ≤ 2050) × Written out.old 0 (frame_text edition f) out.new result }
+    ensures { (result ≤ 2050) × Written out.old 0 (frame_text f) out.new result }
 {
     let third = text::with_three(
         b"F",
@@ -46,7 +43,7 @@ pub fn frame_answer(edition: Edition, f: Frame, out: &mut [u8]) -> usize
         0,
     );
     let end = text::number(f.counter.0 as u64, out, third);
-    pointer_answer(edition, f.pointer, out, end)
+    pointer_answer(f.pointer, out, end)
 }
 
 fn kind_answer(k: Kind, out: &mut [u8], at: usize) -> usize

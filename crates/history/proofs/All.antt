@@ -17,8 +17,6 @@ use Rattle.history.proofs.LetGo.{lets_go, reports-exactly, reads-refused}
 use Rattle.history.proofs.Once.{ruled-once}
 use Rattle.history.proofs.Openings.{every-frame}
 use Rattle.history.proofs.Channels.{every-channel-heard}
-use Rattle.history.proofs.Editions.{edition-stays, editions-alike, every-run-alike}
-use Rattle.history.proofs.Idle.{idle-passed-over}
 use Rattle.history.proofs.Events.{events-exactly}
 use Rattle.history.proofs.Headers.{headers-read}
 
@@ -46,10 +44,6 @@ second =
       heard = every-channel-heard;
       frames = every-frame;
       ruled = ruled-once;
-      edition = edition-stays;
-      idle = idle-passed-over;
-      alike = editions-alike;
-      runs-alike = every-run-alike;
       events = events-exactly;
       complete = complete-exactly;
       reported = reports-exactly;

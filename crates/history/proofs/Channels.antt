@@ -240,8 +240,8 @@ run-listened {w} h i low c is (call ∷ cs) fs ps e =
 pub fresh-unheard : (x : Start) (i : ℕ) → on_desk (fresh x) i ≡ unheard
 fresh-unheard x i =
     let d : desk_at (fresh x).station i ≡ empty_desk =
-    ap (λ (r : SetUpOutcome). desk_at r.station i) ((set_up-outcome x.spacecraft x.edition x.channels x.desks x.store).done x.good)
-    ∙ fresh-desk x.spacecraft x.edition x.channels (length x.store / 8190) i in
+    ap (λ (r : SetUpOutcome). desk_at r.station i) ((set_up-outcome x.spacecraft x.channels x.desks x.store).done x.good)
+    ∙ fresh-desk x.spacecraft x.channels (length x.store / 8190) i in
     ap (λ (y : Desk). record { held = part (8198 * i) y.held (fresh x).desks; seen = y.seen; last = y.counter.0 }) d
 
 pub every-channel-heard : (x : Start) (cs : List Call) → EveryChannelHeard x cs

@@ -234,8 +234,8 @@ complete-held x e =
 -- from a fresh station no file was there before
 pub fresh-held : (x : Start) (k : ℕ) → held (slot_at (fresh x).station k) ≡ false
 fresh-held x k =
-    rw ((set_up-outcome x.spacecraft x.edition x.channels x.desks x.store).done x.good)
-    (fresh-none x.spacecraft x.edition x.channels (length x.store / 8190) k)
+    rw ((set_up-outcome x.spacecraft x.channels x.desks x.store).done x.good)
+    (fresh-none x.spacecraft x.channels (length x.store / 8190) k)
 
 -- a slot holds what came about by any things, and nothing else, from a state that holds no file
 pub held-things : {s : Station} {store : List ℕ} (ts : List Thing) → Settled s store → AllRightly s store ts

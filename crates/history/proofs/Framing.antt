@@ -55,7 +55,7 @@ framing w f list = lends (lent_right s w.desks w.store list) refl
     by : lent_right s w.desks w.store list ≡ true → is_sound s ≡ true → are_desks_sound s w.desks ≡ true
         → (e : Examined) → examined_in w f ≡ e → Framing w f list
     by l h d (Refused n) e =
-        let m = refusal-number s.edition s.spacecraft (take s.channels s.watched) f n e in
+        let m = refusal-number s.spacecraft (take s.channels s.watched) f n e in
         refuses n (omega arith) (rw (l, h, d, e))
     by l h d (Good a) e =
         takes (takes-good w f list l h d e)

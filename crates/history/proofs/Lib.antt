@@ -21,6 +21,4 @@ pub mod Heard
 pub mod Channels
 pub mod Events
 pub mod Headers
-pub mod Editions
-pub mod Idle
 pub mod All

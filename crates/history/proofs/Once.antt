@@ -9,7 +9,6 @@ use native.Mathlib.Omega.{arith}
 use lib.ListN.{length, length-append}
 use Rattle.octets.specs.Choice.{Decides}
 use Rattle.octets.specs.Choice.Decides.{holds, fails}
-use Rattle.octets.proofs.Decide.{decides-leb, decides_ltb, decides_eqb, ◌and◌, decides_or}
 use Rattle.packet.specs.declared.Look.{Look}
 use Rattle.packet.specs.declared.Look.TheVariants.{Short, Bad, Good}
 use Rattle.packet.specs.Header.{look_of, size_of}
@@ -19,15 +18,11 @@ use Rattle.zone.specs.Zone.{Split, split, Unfinished}
 use Rattle.zone.specs.Walk.{bad_events}
 use Rattle.zone.proofs.Split.{Cuts, split-cuts, split-wholes, split-left, split-bad, split-unfinished, cut_all, carried-lacks}
 use Rattle.zone.proofs.Split.Cuts.{at-end, at-bad}
+use Rattle.zone.proofs.Readings.{agrees-exactly}
 use Rattle.history.specs.Openings.{counter_in, pointer_in, zone_in, OnDesk, Follows, Lacks, Pointed, Carried, Dropped, Opens, Closes, RuledOnce}
-use Rattle.history.specs.Openings.Dropped.{by-gap, none-held, by-idle, by-header, by-pointer}
+use Rattle.history.specs.Openings.Dropped.{by-gap, none-held, by-header, by-pointer}
 use Rattle.history.specs.Openings.Opens.{carries-on, begins-anew}
 use Rattle.history.specs.Openings.Closes.{to_end, to-bad}
-
--- no packet wants the pointer of an idle zone
-pub never-idle : {r : ℕ} (f : List ℕ) → Pointed r f → pointer_in f ≡ 2046 → ⊥
-never-idle f (inl (low, p)) e = omega arith
-never-idle f (inr (high, p)) e = omega arith
 
 -- a header is not good and bad, and what a packet lacks is one number
 module _ {d : OnDesk} {f : List ℕ} where
@@ -50,35 +45,25 @@ module _ {d : OnDesk} {f : List ℕ} where
   pub apart : {es : List Event} → Carried d f → Dropped d f es → ⊥
   apart c (by-gap s n) = n c.lacks.follows
   apart c (none-held s e) = none-lacks c.lacks e
-  apart c (by-idle s n e) = never-idle f c.pointer e
-  apart c (by-header s n o e) = good-bad c.lacks e
+  apart c (by-header s n e) = good-bad c.lacks e
   apart c (by-pointer r l n) = n (subst (λ (q : ℕ). Pointed q f) (lacks-once c.lacks l) c.pointer)
 
   dropped-once : {es fs : List Event} → Dropped d f es → Dropped d f fs → es ≡ fs
   dropped-once (by-gap s n) (by-gap t m) = refl
   dropped-once (by-gap s n) (none-held m e) = absurd (n (m s))
-  dropped-once (by-gap s n) (by-idle k m e) = absurd (n m)
-  dropped-once (by-gap s n) (by-header k m o e) = absurd (n m)
+  dropped-once (by-gap s n) (by-header k m e) = absurd (n m)
   dropped-once (by-gap s n) (by-pointer r l m) = absurd (n l.follows)
   dropped-once (none-held n e) (by-gap s m) = absurd (m (n s))
   dropped-once (none-held n e) (none-held m q) = refl
-  dropped-once (none-held n e) (by-idle k m q) = absurd (omega (arith, k, ap length e))
-  dropped-once (none-held n e) (by-header k m o q) = absurd (omega (arith, k, ap length e))
+  dropped-once (none-held n e) (by-header k m q) = absurd (omega (arith, k, ap length e))
   dropped-once (none-held n e) (by-pointer r l m) = absurd (none-lacks l e)
-  dropped-once (by-idle k n e) (by-gap s m) = absurd (m n)
-  dropped-once (by-idle k n e) (none-held m q) = absurd (omega (arith, k, ap length q))
-  dropped-once (by-idle k n e) (by-idle t m q) = refl
-  dropped-once (by-idle k n e) (by-header t m o q) = absurd (o e)
-  dropped-once (by-idle k n e) (by-pointer r l m) = refl
-  dropped-once (by-header k n o e) (by-gap s m) = absurd (m n)
-  dropped-once (by-header k n o e) (none-held m q) = absurd (omega (arith, k, ap length q))
-  dropped-once (by-header k n o e) (by-idle t m q) = absurd (o q)
-  dropped-once (by-header k n o e) (by-header t m i q) = refl
-  dropped-once (by-header k n o e) (by-pointer r l m) = absurd (good-bad l e)
+  dropped-once (by-header k n e) (by-gap s m) = absurd (m n)
+  dropped-once (by-header k n e) (none-held m q) = absurd (omega (arith, k, ap length q))
+  dropped-once (by-header k n e) (by-header t m q) = refl
+  dropped-once (by-header k n e) (by-pointer r l m) = absurd (good-bad l e)
   dropped-once (by-pointer r l n) (by-gap s m) = absurd (m l.follows)
   dropped-once (by-pointer r l n) (none-held m e) = absurd (none-lacks l e)
-  dropped-once (by-pointer r l n) (by-idle k m e) = refl
-  dropped-once (by-pointer r l n) (by-header k m o e) = absurd (good-bad l e)
+  dropped-once (by-pointer r l n) (by-header k m e) = absurd (good-bad l e)
   dropped-once (by-pointer r l n) (by-pointer q k m) = refl
 
   pub opens-once : {es fs : List Event} {xs ys : List ℕ} → Opens d f es xs → Opens d f fs ys → (es ≡ fs) × (xs ≡ ys)
@@ -89,13 +74,12 @@ module _ {d : OnDesk} {f : List ℕ} where
 
 -- one of the cases holds
 module _ (d : OnDesk) (f : List ℕ) (u : Unfinished d.held) (long : length (zone_in f) ≡ 884) where
-  -- octets are held, no frame is missing, and the zone is not idle
-  either-into : 0 < length d.held → Follows d f → (pointer_in f ≡ 2046 → ⊥) → (l : Look) → look_of (d.held ++ zone_in f) ≡ l
+  -- octets are held, and no frame is missing
+  either-into : 0 < length d.held → Follows d f → (l : Look) → look_of (d.held ++ zone_in f) ≡ l
       → Carried d f ⊎ ((es : List Event) × Dropped d f es)
-  either-into some n o Short e = absurd (omega (arith, look-tells (d.held ++ zone_in f) e, length-append d.held (zone_in f)))
-  either-into some n o Bad e = inr (_, by-header some n o e)
-  either-into some n o (Good h) e =
-      by (decides_or (decides_ltb r 884 and decides_eqb (pointer_in f) r) (decides-leb 884 r and decides_eqb (pointer_in f) 2047))
+  either-into some n Short e = absurd (omega (arith, look-tells (d.held ++ zone_in f) e, length-append d.held (zone_in f)))
+  either-into some n Bad e = inr (_, by-header some n e)
+  either-into some n (Good h) e = by (agrees-exactly r (pointer_in f))
     where
       r : ℕ
       r = size_of h - length d.held
@@ -118,10 +102,7 @@ module _ (d : OnDesk) (f : List ℕ) (u : Unfinished d.held) (long : length (zon
       seamless n [] e = inr (_, none-held n e)
       seamless n (x ∷ xs) e =
           let some : 0 < length d.held = omega (arith, ap length e) in
-          elim (ℕ_discrete (pointer_in f) 2046) [
-            | yes i ↦ inr (_, by-idle some (n (s some)) i)
-            | no o ↦ either-into some (n (s some)) o (look_of (d.held ++ zone_in f)) refl
-          ]
+          either-into some (n (s some)) (look_of (d.held ++ zone_in f)) refl
 
       missing : (Follows d f → ⊥) → (b : Bool) → d.seen ≡ b → Carried d f ⊎ ((es : List Event) × Dropped d f es)
       missing n true e = inr (_, by-gap e n)

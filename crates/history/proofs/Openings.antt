@@ -9,14 +9,13 @@ use native.Mathlib.Omega.{arith}
 use borrow.Author.Tests.{eq-eqb}
 use lib.ListN.{length, take, drop}
 use lib.Seq.{get_or-set_same}
-use Rattle.octets.specs.Choice.{Decides}
 use Rattle.octets.specs.Number.{part}
 use Rattle.octets.proofs.Decide.{tells, told-true}
 use Rattle.octets.proofs.Lists.{in_either, if-true}
 use Rattle.frame.specs.declared.Channel.{Channel}
 use Rattle.frame.specs.declared.Counter.{Counter}
 use Rattle.frame.specs.Header.{derandomised, pointer_meaning}
-use Rattle.frame.proofs.Answers.{good-header, good-size}
+use Rattle.frame.proofs.Answers.{good-header, good-size, pointer-good}
 use Rattle.frame.proofs.Sizes.{length-zone, length-derandomised}
 use Rattle.packet.specs.Header.{size_of}
 use Rattle.state.specs.declared.Desk.{Desk}
@@ -26,10 +25,10 @@ use Rattle.events.specs.Event.{Event, bare, Among}
 use Rattle.judge.specs.Judge.{Judged, judged}
 use Rattle.judge.proofs.Exact.{Given, given-exactly}
 use Rattle.judge.proofs.Exact.Given.{wrong-check, no-file, abandoned, wrong_start, all_held, too_large, opened, accepted, completed, whole, reserved}
-use Rattle.zone.specs.Zone.{Split, split, Reading, agrees, is_idle, reading, Unfinished}
-use Rattle.zone.specs.Walk.{judged_all, bad_events, held_at, reading_of, with_held, with_desk, desk_after, walked}
+use Rattle.zone.specs.Zone.{Split, split, Reading, agrees, reading, Unfinished}
+use Rattle.zone.specs.Walk.{judged_all, bad_events, held_at, reading_of, with_desk, desk_after, walked}
 use Rattle.zone.proofs.Split.{unfinished-few, split-left}
-use Rattle.zone.proofs.Readings.{at_pointer, from_place, idle-exactly, agrees-exactly, gap-exactly, reading-none, reading-idle, reading-bad, reading-on, reading-dropped, reading-gap, reading-seamless}
+use Rattle.zone.proofs.Readings.{at_pointer, from_place, agrees-exactly, gap-exactly, reading-none, reading-bad, reading-on, reading-dropped, reading-gap, reading-seamless}
 use Rattle.zone.proofs.Walks.{all-sized, held-now, held-length, desk-unfinished}
 use Rattle.station.specs.Frame.{FrameOutcome, channel_at}
 use Rattle.history.specs.Run as runs
@@ -38,7 +37,7 @@ use Rattle.history.specs.Run.Call.{frame}
 use Rattle.history.specs.Things.{split_in, did_all, things, said}
 use Rattle.history.specs.Things.Thing.{packet, left}
 use Rattle.history.specs.Openings.{counter_in, pointer_in, zone_in, OnDesk, on_desk, leaving, Follows, Carried, Dropped, Opens, Closes, packets_under, OverFrame, EveryFrame}
-use Rattle.history.specs.Openings.Dropped.{by-gap, none-held, by-idle, by-header, by-pointer}
+use Rattle.history.specs.Openings.Dropped.{by-gap, none-held, by-header, by-pointer}
 use Rattle.history.specs.Openings.Opens.{carries-on, begins-anew}
 use Rattle.history.proofs.Framing.{Taken}
 use Rattle.history.proofs.Sound.{taken-low, run_sound, fresh-sound}
@@ -77,6 +76,7 @@ under_same c d [] i k e = refl
 under_same c d (p ∷ ps) i k e =
     ap₂ ◌++◌ (if-true (p ∷ []) [] (eq-eqb d.0 c.0 e)) (under_same c d ps i k e)
 
+-- something is held only if a frame was seen
 seen_if : (d : Desk) → (d.seen ≡ false → (d.counter.0 ≡ 0) × (d.held ≡ 0)) → 0 < d.held → d.seen ≡ true
 seen_if d u l = by d.seen refl
   where
@@ -95,29 +95,25 @@ module _ {w : World} (h : SoundWorld w) {f list : List ℕ} (t : Taken w f list)
   counted : t.frame.counter.0 ≡ counter_in f
   counted =
       let s = w.station in
-      ap (λ (x : Counter). x.0) (good-header s.edition s.spacecraft (take s.channels s.watched) f t.frame t.good).counter
+      ap (λ (x : Counter). x.0) (good-header s.spacecraft (take s.channels s.watched) f t.frame t.good).counter
 
-  pointing : t.frame.pointer ≡ pointer_meaning w.station.edition (pointer_in f)
+  pointing : t.frame.pointer ≡ pointer_meaning (pointer_in f)
   pointing =
       let s = w.station in
-      (good-header s.edition s.spacecraft (take s.channels s.watched) f t.frame t.good).pointer
+      (good-header s.spacecraft (take s.channels s.watched) f t.frame t.good).pointer
 
-  pub zone-long : length (zone_in f) ≡ 884
+  zone-long : length (zone_in f) ≡ 884
   zone-long =
       let s = w.station in
-      length-zone (derandomised f) (length-derandomised f (good-size s.edition s.spacecraft (take s.channels s.watched) f t.frame t.good))
+      length-zone (derandomised f) (length-derandomised f (good-size s.spacecraft (take s.channels s.watched) f t.frame t.good))
 
   at_place : (es : List Event) → at_pointer es (zone_in f) t.frame.pointer ≡ record { events = es; octets = drop (pointer_in f) (zone_in f) }
   at_place es =
-      ap (at_pointer es (zone_in f)) pointing
-      ∙ ap (λ (xs : List ℕ). record { events = es; octets = xs }) (from_place w.station.edition (pointer_in f) (zone_in f) zone-long)
-
-  -- the zone is idle only exactly if the pointer is 2046
-  idle : Decides (pointer_in f ≡ 2046) (is_idle t.frame.pointer)
-  idle =
       let s = w.station in
-      rw pointing
-      (idle-exactly s.edition (pointer_in f) (good-header s.edition s.spacecraft (take s.channels s.watched) f t.frame t.good).allowed)
+      ap (at_pointer es (zone_in f)) pointing
+      ∙ ap (λ (xs : List ℕ). record { events = es; octets = xs })
+      (from_place (pointer_in f) (zone_in f) zone-long
+      (pointer-good s.spacecraft (take s.channels s.watched) f t.frame t.good))
 
   -- no frame is missing
   onto-held : (desk.seen ≡ true → Follows desk f) → its ≡ reading desk.held (zone_in f) t.frame.pointer
@@ -128,7 +124,7 @@ module _ {w : World} (h : SoundWorld w) {f list : List ℕ} (t : Taken w f list)
       let g = told-true (gap-exactly (desk_at w.station t.frame.desk) t.frame.counter) e in
       g.1 (counted ∙ n g.0)))
 
-  compared : (r n : ℕ) → n ≡ r → agrees n t.frame.pointer ≡ agrees r (pointer_meaning w.station.edition (pointer_in f))
+  compared : (r n : ℕ) → n ≡ r → agrees n t.frame.pointer ≡ agrees r (pointer_meaning (pointer_in f))
   compared r n e = ap₂ agrees e pointing
 
   -- the station reads by the case that holds
@@ -138,7 +134,7 @@ module _ {w : World} (h : SoundWorld w) {f list : List ℕ} (t : Taken w f list)
       onto-held (λ s. l.follows)
       ∙ reading-on desk.held (zone_in f) t.frame.pointer l.some l.good
       (compared c.lacked (size_of l.header - length desk.held) (omega (arith, l.size))
-      ∙ tells (agrees-exactly w.station.edition c.lacked (pointer_in f)) c.pointer)
+      ∙ tells (agrees-exactly c.lacked (pointer_in f)) c.pointer)
 
   dropped-reads : {es : List Event} → Dropped desk f es → its ≡ record { events = es; octets = drop (pointer_in f) (zone_in f) }
   dropped-reads (by-gap s n) =
@@ -147,31 +143,26 @@ module _ {w : World} (h : SoundWorld w) {f list : List ℕ} (t : Taken w f list)
       ∙ at_place (bare 1 ∷ [])
   dropped-reads (none-held n e) =
       onto-held n ∙ ap (λ (xs : List ℕ). reading xs (zone_in f) t.frame.pointer) e ∙ reading-none (zone_in f) t.frame.pointer ∙ at_place []
-  dropped-reads (by-idle s n e) =
-      onto-held (λ q. n) ∙ reading-idle desk.held (zone_in f) t.frame.pointer s (tells idle e) ∙ at_place (bare 2 ∷ [])
-  dropped-reads (by-header s n o e) =
-      onto-held (λ q. n)
-      ∙ reading-bad desk.held (zone_in f) t.frame.pointer s (false-unless _ (λ i. o (told-true idle i))) e
-      ∙ at_place (bare 3 ∷ [])
+  dropped-reads (by-header s n e) =
+      onto-held (λ q. n) ∙ reading-bad desk.held (zone_in f) t.frame.pointer s e ∙ at_place (bare 3 ∷ [])
   dropped-reads (by-pointer r l n) =
       onto-held (λ q. l.follows)
       ∙ reading-dropped desk.held (zone_in f) t.frame.pointer l.some l.good
       (compared r (size_of l.header - length desk.held) (omega (arith, l.size))
-      ∙ false-unless _ (λ e. n (told-true (agrees-exactly w.station.edition r (pointer_in f)) e)))
+      ∙ false-unless _ (λ e. n (told-true (agrees-exactly r (pointer_in f)) e)))
       ∙ at_place (bare 2 ∷ [])
-
-  -- something is held only if a frame was seen
-  pub held-seen : 0 < length (on_desk w t.frame.desk).held → (on_desk w t.frame.desk).seen ≡ true
-  held-seen l =
-      seen_if (desk_at w.station t.frame.desk) (h.sound.desks t.frame.desk (taken-low h t)).unseen
-      (omega (arith, held-length h.sound w.desks h.desked t.frame.desk (taken-low h t)))
 
   pub frame-opens : Opens (on_desk w t.frame.desk) f (reading_of w.station w.desks (zone_in f) t.frame).events
       (reading_of w.station w.desks (zone_in f) t.frame).octets
-  frame-opens = by (either desk f unfinished zone-long held-seen)
+  frame-opens = by (either desk f unfinished zone-long seen)
     where
       unfinished : Unfinished desk.held
       unfinished = desk-unfinished h.sound w.desks h.desked t.frame.desk (taken-low h t) h.desks
+
+      seen : 0 < length desk.held → desk.seen ≡ true
+      seen l =
+          seen_if (desk_at w.station t.frame.desk) (h.sound.desks t.frame.desk (taken-low h t)).unseen
+          (omega (arith, held-length h.sound w.desks h.desked t.frame.desk (taken-low h t)))
 
       by : Carried desk f ⊎ ((es : List Event) × Dropped desk f es) → Opens desk f its.events its.octets
       by (inl c) = subst (λ (r : Reading). Opens desk f r.events r.octets) (sym (carried-reads c)) (carries-on c)
@@ -245,26 +236,15 @@ module _ {w : World} (h : SoundWorld w) {f list : List ℕ} (t : Taken w f list)
   pub desk-then : on_desk (runs.after w (frame f list)) t.frame.desk ≡ leaving held (counter_in f)
   desk-then = desk-after h t ∙ ap (λ (left : List ℕ). leaving left (counter_in f)) cut-so.1
 
-  -- the world that packets leave, with these octets held
-  abbrev pub left_by : List (List ℕ) → List ℕ → World
-  left_by qs kept =
-      let j : Judged = judged_all (channel_at w.station t.frame.desk) w.station w.store qs in
-      record {
-        station = with_desk j.station t.frame.desk (desk_after t.frame (length kept));
-        desks = with_held w.desks t.frame.desk kept;
-        store = j.store;
-      }
-
-  pub world-then : runs.after w (frame f list) ≡ left_by ps held
-  unfolding runs.after walked
-  world-then =
-      ap (λ (r : FrameOutcome). record { station = r.station; desks = r.desks; store = r.store }) t.gives
-      ∙ ap₂ left_by cut-so.0 cut-so.1
-
   pub station-then : (runs.after w (frame f list)).station
       ≡ with_desk (judged_all (channel_at w.station t.frame.desk) w.station w.store ps).station t.frame.desk
       (desk_after t.frame (length held))
-  station-then = ap (λ (v : World). v.station) world-then
+  unfolding runs.after walked
+  station-then =
+      let a = t.frame in
+      let then : List (List ℕ) → List ℕ → Station =
+      λ qs left. with_desk (judged_all its-channel w.station w.store qs).station a.desk (desk_after a (length left)) in
+      ap (λ (r : FrameOutcome). r.station) t.gives ∙ ap₂ then cut-so.0 cut-so.1
 
   pub said-then : said w (frame f list) ≡ es ++ (judged_all (channel_at w.station t.frame.desk) w.station w.store ps).events ++ zs
   unfolding walked

@@ -5,8 +5,7 @@ use mathlib.Core.List.{List}
 use Prim.Native.Nat.{ℕ}
 use native.Mathlib.Decide.{ℕ_discrete}
 use Rattle.state.specs.Sound.{Sized}
-use Rattle.frame.specs.declared.Edition.{Edition}
-use Rattle.state.specs.Decision.{is_sound, are_desks_sound}
+use Rattle.state.specs.Decision.{good_channels, is_sound, are_desks_sound}
 use Rattle.state.specs.Plainly.{Stray}
 use Rattle.state.proofs.Exactly.{sound-yes}
 use Rattle.state.proofs.Plainly.{stray-refused}
@@ -16,7 +15,6 @@ use Rattle.station.specs.Files.{ReadOutcome, told_values}
 use Rattle.station.specs.Frame.{FrameOutcome, lent_right}
 use Rattle.station.proofs.Decided.{Outcome}
 use Rattle.station.proofs.Frames.{lent-desks, lent-wrong, unsound, desks-unsound}
-use Rattle.station.specs.SetUp.{good_names}
 use Rattle.station.proofs.Calls.{frame-outcome, let_go-outcome, read-outcome, told-outcome, set_up-outcome, set_up-ten}
 use Rattle.history.specs.Run.{World, Call, answer, after}
 use Rattle.history.specs.Run.Call.{frame, read, let-go}
@@ -102,11 +100,11 @@ not_good : (b : Bool) → (not b || false) ≡ true → b ≡ false
 not_good true e = absurd (false≢true e)
 not_good false e = refl
 
-pub every-set-up : (craft : ℕ) (edition : Edition) (channels desks store : List ℕ) → SetsUp craft edition channels desks store
-every-set-up craft edition channels desks store =
-    let o = set_up-outcome craft edition channels desks store in
+pub every-set-up : (craft : ℕ) (channels desks store : List ℕ) → SetsUp craft channels desks store
+every-set-up craft channels desks store =
+    let o = set_up-outcome craft channels desks store in
     record {
       number = by_number o;
-      ten = λ e. set_up-ten craft edition channels desks store (not_good (good_names edition channels) e);
+      ten = λ e. set_up-ten craft channels desks store (not_good (good_channels channels) e);
       refused = λ n. (o.refused n).0;
     }

@@ -65,7 +65,7 @@ module _ (w : World) {c : Channel} {p : List ℕ} where
       let e : c ≡ header_channel f =
       of-frame (split_in w f t.frame).packets t.frame.desk _ (subst (Memᴰ (packet c p)) (things-taken w t) m)
       ∙ desk-channel w.station f t.frame t.good in
-      record { header = e; in-octets = λ o. ap number e ∙ (plainly f (good-size _ _ _ f t.frame t.good) o).channel }
+      record { header = e; in-octets = λ o. ap number e ∙ (plainly f (good-size _ _ f t.frame t.good) o).channel }
 
   -- no other call brings a packet
   brought-now : (call : Call) (cs : List Call) → Memᴰ (packet c p) (things w call) → Brought w (call ∷ cs) c p

@@ -56,7 +56,7 @@ module _ {w : World} (h : SoundWorld w) where
     taken-low = desk-low w.station f t.frame t.good
 
     pub taken-counter : t.frame.counter.0 < 0x1000000
-    taken-counter = counter-good _ _ _ f t.frame t.good
+    taken-counter = counter-good _ _ f t.frame t.good
 
     pub taken-keeps :
         Kept w.station w.desks w.store t.frame.desk
@@ -71,8 +71,8 @@ module _ {w : World} (h : SoundWorld w) where
           owners = h.sized.owner;
           watched = desk-watched s f t.frame t.good;
           desk = taken-low;
-          frame = length-zone (derandomised f) (length-derandomised f (good-size _ _ _ f t.frame t.good));
-          start = start-within _ _ _ f t.frame t.good;
+          frame = length-zone (derandomised f) (length-derandomised f (good-size _ _ f t.frame t.good));
+          start = start-within _ _ f t.frame t.good;
           desked = h.desked;
           stored = h.stored;
           listed = taken-list t;
@@ -112,7 +112,7 @@ run_sound h [] = h
 run_sound h (c ∷ cs) = run_sound (after-sound h c) cs
 
 pub fresh-sound : (x : Start) → SoundWorld (fresh x)
-fresh-sound x = set_up-ready x.spacecraft x.edition x.channels x.desks x.store x.good
+fresh-sound x = set_up-ready x.spacecraft x.channels x.desks x.store x.good
 
 -- "From a set-up answered by 0, with state and memory handed back untouched after every call, no call is answered by 2."
 pub every-sound : EveryRun NeverUnsound

@@ -1,7 +1,6 @@
 -- Demand 1: what each call answers, of any octets and any state, reached or not; and that a refused call changes nothing. Assumes nothing.
 use Rattle.std.specs.Prelude.{◌≡◌, Bool, true, false, List, [], ◌∷◌, ℕ, ◌≤◌, length}
 use Rattle.octets.specs.Buffer.{put}
-use Rattle.frame.specs.declared.Edition.{Edition}
 use Rattle.state.specs.Slots.{all_zero_state}
 use Rattle.state.specs.Sound.{Sized}
 use Rattle.state.specs.Plainly.{Stray}
@@ -86,12 +85,12 @@ pub record ZerosAfter (w : World) (f list : List ℕ) : Type 0 where
   pub refused : Sized w.station → Stray w.station w.desks → (answer w (frame f list) ≡ 1 → ⊥) → answer w (frame f list) ≡ 2
 
 -- set-up, in whose table "10 comes before 1"; "a refused set-up's state is all zero", and its desks stay
-pub record SetsUp (craft : ℕ) (edition : Edition) (channels desks store : List ℕ) : Type 0 where
-  pub number : ByNumber (set_up_says edition channels desks store) (set_up craft edition channels desks store).answer
-  pub ten : applies (set_up_says edition channels desks store) 10 ≡ true → (set_up craft edition channels desks store).answer ≡ 10
+pub record SetsUp (craft : ℕ) (channels desks store : List ℕ) : Type 0 where
+  pub number : ByNumber (set_up_says channels desks store) (set_up craft channels desks store).answer
+  pub ten : applies (set_up_says channels desks store) 10 ≡ true → (set_up craft channels desks store).answer ≡ 10
   pub refused :
-      ((set_up craft edition channels desks store).answer ≡ 0 → ⊥)
-      → set_up craft edition channels desks store ≡ set_up_gives (set_up craft edition channels desks store).answer all_zero_state desks
+      ((set_up craft channels desks store).answer ≡ 0 → ⊥)
+      → set_up craft channels desks store ≡ set_up_gives (set_up craft channels desks store).answer all_zero_state desks
 
 -- "0: done; for a frame, with the number of events"; "After 0 the events fill the list from its start and the rest of it stays."
 pub record Told (w : World) (f list : List ℕ) : Type 0 where

@@ -2,7 +2,6 @@
 -- the station with its desks and store; a run is any list of calls; both are functions of what came in (Run.antt). Assumes nothing.
 use Rattle.std.specs.Prelude.{◌≡◌, List, ◌↔◌, ℕ, ◌≤◌, length}
 use Rattle.octets.specs.Number.{Octets}
-use Rattle.frame.specs.declared.Edition.{Edition}
 use Rattle.frame.specs.Header.{derandomised, frame_of, zone_of}
 use Rattle.frame.specs.Plainly.{Plainly, ZonePlainly}
 use Rattle.packet.specs.declared.Look.TheVariants.{Bad}
@@ -18,7 +17,6 @@ use Rattle.history.specs.Sorted.{SortedByChannel, FilesSorted}
 use Rattle.history.specs.Freed.{HeldThen, FreesAtOnce, LetsGo}
 use Rattle.history.specs.Heard.{EveryChannelHeard}
 use Rattle.history.specs.Openings.{EveryFrame, RuledOnce}
-use Rattle.history.specs.Editions.{EditionStays, IdlePassedOver, EditionsAlike, EveryRunAlike}
 use Rattle.history.specs.Events.{EventsExactly}
 use Rattle.history.specs.Headers.{HeadersRead}
 use Rattle.history.specs.Store.{BlocksRight, Moment, EveryPacket, Judgeable, FromTheFirst, NeverLost, KeptOrEnded, Event6, RefusedForRoom, Logged}
@@ -49,7 +47,7 @@ pub record First : Type 0 where
   pub tells : (w : World) (k : ℕ) → TellsByNumber w k
   -- what a table's test cannot leave out unseen: a desk's octets behind those that it holds
   pub zeros-after : (w : World) (f list : List ℕ) → ZerosAfter w f list
-  pub sets-up : (craft : ℕ) (edition : Edition) (channels desks store : List ℕ) → SetsUp craft edition channels desks store
+  pub sets-up : (craft : ℕ) (channels desks store : List ℕ) → SetsUp craft channels desks store
   -- the events of a frame are those of its list, and not too many for it, whatever state was handed back
   pub told : (w : World) (f list : List ℕ) → answer w (frame f list) ≡ 0 → Told w f list
   pub few : (w : World) → Sized w.station → FewEvents w
@@ -69,11 +67,6 @@ pub record Second : Type 0 where
   pub heard : OfEveryRun EveryChannelHeard
   pub frames : OfEveryRun EveryFrame
   pub ruled : RuledOnce
-  -- "Under 732, 2046 is read as no start, ..": what such a frame does; "Frames with any other pointer are answered alike" (02, 6/14)
-  pub edition : OfEveryRun EditionStays
-  pub idle : OfEveryRun IdlePassedOver
-  pub alike : EditionsAlike
-  pub runs-alike : EveryRunAlike
   -- "checked by CRC and sequence": what each packet gives, each event exactly when its rule says
   pub events : EveryPacket EventsExactly
   -- "A file is complete exactly when it was opened and all its packets then came .. with nothing ending it by the paper's rules."

@@ -9,7 +9,6 @@ pub mod Sorted
 pub mod Freed
 pub mod Openings
 pub mod Heard
-pub mod Editions
 pub mod Events
 pub mod Headers
 -- What these speak of: a run, and the list of what happened in it.

@@ -73,17 +73,15 @@ pub data Dropped (d : OnDesk) (f : List ℕ) : List Event → Type 0 where
   by-gap : d.seen ≡ true → (Follows d f → ⊥) → Dropped d f (bare 1 ∷ [])
   -- "or with nothing held". "The first frame gives no event."
   none-held : (d.seen ≡ true → Follows d f) → d.held ≡ [] → Dropped d f []
-  -- "held octets are dropped with event 2", whatever they are: no octet of an idle zone is read. Only 732 lets such a frame in (02, 6/14)
-  by-idle : 0 < length d.held → Follows d f → pointer_in f ≡ 2046 → Dropped d f (bare 2 ∷ [])
   -- "When six are there, a bad header gives event 3 and drops the packet."
-  by-header : 0 < length d.held → Follows d f → (pointer_in f ≡ 2046 → ⊥) → look_of (d.held ++ zone_in f) ≡ Bad → Dropped d f (bare 3 ∷ [])
+  by-header : 0 < length d.held → Follows d f → look_of (d.held ++ zone_in f) ≡ Bad → Dropped d f (bare 3 ∷ [])
   -- "if not, event 2 and the packet is dropped"
   by-pointer : (r : ℕ) → Lacks d f r → (Pointed r f → ⊥) → Dropped d f (bare 2 ∷ [])
 
 -- the event that is given first, and the octets that are read
 pub data Opens (d : OnDesk) (f : List ℕ) : List Event → List ℕ → Type 0 where
   carries-on : Carried d f → Opens d f [] (d.held ++ zone_in f)
-  -- "reading begins at the pointer, or nowhere if it is 2047": a zone has 884 octets, so nothing stands behind place 2047, nor 2046
+  -- "reading begins at the pointer, or nowhere if it is 2047": a zone has 884 octets, so nothing stands behind place 2047
   begins-anew : {es : List Event} → Dropped d f es → Opens d f es (drop (pointer_in f) (zone_in f))
 
 -- octets xs are read from their first on as the packets ps, each of them whole, one behind the other, no octet left out and none twice: what is

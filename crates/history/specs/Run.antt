@@ -1,6 +1,5 @@
 -- Every sequence of calls from a good set-up, "with state and memory handed back untouched". Assumes nothing.
 use Rattle.std.specs.Prelude.{◌≡◌, List, [], ◌∷◌, ℕ}
-use Rattle.frame.specs.declared.Edition.{Edition}
 use Rattle.state.specs.declared.Station.{Station}
 use Rattle.station.specs.SetUp.{set_up}
 use Rattle.station.specs.Frame.{FrameOutcome, framed}
@@ -46,18 +45,17 @@ run w (c ∷ cs) = run (after w c) cs
 -- a set-up that is answered by 0
 pub record Start : Type 0 where
   pub spacecraft : ℕ
-  pub edition : Edition
   pub channels : List ℕ
   pub desks : List ℕ
   pub store : List ℕ
-  pub good : (set_up spacecraft edition channels desks store).answer ≡ 0
+  pub good : (set_up spacecraft channels desks store).answer ≡ 0
 
 -- the world that it leaves
 abbrev pub fresh : Start → World
 fresh x =
     record {
-      station = (set_up x.spacecraft x.edition x.channels x.desks x.store).station;
-      desks = (set_up x.spacecraft x.edition x.channels x.desks x.store).desks;
+      station = (set_up x.spacecraft x.channels x.desks x.store).station;
+      desks = (set_up x.spacecraft x.channels x.desks x.store).desks;
       store = x.store;
     }
 

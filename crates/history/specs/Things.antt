@@ -44,7 +44,7 @@ did_all s store (t ∷ ts) =
 
 -- a frame, examined against the station's set-up
 abbrev pub examined_in : World → List ℕ → Examined
-examined_in w f = examined w.station.edition w.station.spacecraft (take w.station.channels w.station.watched) f
+examined_in w f = examined w.station.spacecraft (take w.station.channels w.station.watched) f
 
 abbrev pub split_in : World → List ℕ → Accepted → Split
 split_in w f a = split (reading_of w.station w.desks (zone_of (derandomised f)) a).octets

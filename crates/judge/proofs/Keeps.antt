@@ -37,7 +37,6 @@ use Rattle.judge.proofs.Parts.Judges.{fill, other, damaged, begins-new, begins-o
 -- t is s but for files and their blocks
 pub record Stays (s t : Station) : Type 0 where
   pub spacecraft : t.spacecraft ≡ s.spacecraft
-  pub edition : t.edition ≡ s.edition
   pub channels : t.channels ≡ s.channels
   pub watched : t.watched ≡ s.watched
   pub desks : t.desks ≡ s.desks
@@ -48,13 +47,12 @@ pub record Stays (s t : Station) : Type 0 where
   pub past : drop s.blocks t.owner ≡ drop s.blocks s.owner
 
 pub stays_all : (s : Station) → Stays s s
-stays_all s = record { spacecraft = refl; edition = refl; channels = refl; watched = refl; desks = refl; blocks = refl; owners = refl; slots = refl; past = refl }
+stays_all s = record { spacecraft = refl; channels = refl; watched = refl; desks = refl; blocks = refl; owners = refl; slots = refl; past = refl }
 
 pub stays_then : {s t u : Station} → Stays s t → Stays t u → Stays s u
 stays_then {s} {t} {u} a b =
     record {
       spacecraft = b.spacecraft ∙ a.spacecraft;
-      edition = b.edition ∙ a.edition;
       channels = b.channels ∙ a.channels;
       watched = b.watched ∙ a.watched;
       desks = b.desks ∙ a.desks;
@@ -68,7 +66,6 @@ pub stays-refiled : {s t : Station} {k : ℕ} {x : Slot} → Refiled s k x t →
 stays-refiled {s} {k} {x} r =
     record {
       spacecraft = ap (λ (u : Station). u.spacecraft) r.frame;
-      edition = ap (λ (u : Station). u.edition) r.frame;
       channels = ap (λ (u : Station). u.channels) r.frame;
       watched = ap (λ (u : Station). u.watched) r.frame;
       desks = ap (λ (u : Station). u.desks) r.frame;

@@ -1,7 +1,7 @@
 // Frames from standard input, and what happened, line by line: F, index, answer and event count of a frame; E and the numbers of an event;
 // at the end END, frames, octets left over.
 //
-// Owns the memory of a station: spacecraft 1, edition 701, channels 0 to 3, seven blocks. Promises: the program is safe and ends; its station goes from
+// Owns the memory of a station: spacecraft 1, channels 0 to 3, seven blocks. Promises: the program is safe and ends; its station goes from
 // frame to frame as the station's contract has it; what it prints of a frame is the text of what the station's contract says comes of it. A trailing part of a frame is counted, and no frame.
 ghost use Rattle.std.specs.Prelude.{◌≤◌, ◌≡◌, length};
 ghost use Rattle.station.specs.Frame.{framed};
@@ -10,7 +10,7 @@ ghost use Rattle.lines.specs.Lines.{end_line};
 ghost use Rattle.station.specs.Handed.{WentOn};
 ghost use Rattle.receive.specs.Told.{frame_text, outcome_text};
 
-use frame::{Edition, Frame};
+use frame::Frame;
 use libc::{STDIN_FILENO, STDOUT_FILENO};
 use state::Station;
 
@@ -77,8 +77,7 @@ fn main() {
     let mut out = [0u8; LINES];
     let mut unit = [0u8; Frame::SIZE];
     let channels = CHANNELS;
-    let edition = Edition(Edition::EARLIER);
-    let fresh = station::set_up(SPACECRAFT, edition, &channels, &mut desks, &store);
+    let fresh = station::set_up(SPACECRAFT, &channels, &mut desks, &store);
     let mut s = fresh.station;
     let mut frames: u64 = 0;
     while frames < u64::MAX {

@@ -65,16 +65,8 @@ fn admit(
     if !desks::are_desks_sound(positions, head.channels, desks) {
         return Examined::Refused(2);
     }
-    let edition = head.edition;
     let watched = head.watched;
-    examine::examine(
-        octets,
-        plain,
-        edition,
-        head.spacecraft,
-        watched,
-        head.channels,
-    )
+    examine::examine(octets, plain, head.spacecraft, watched, head.channels)
 }
 
 // What comes of a frame: its answer and events, its desk with what that keeps now, and the slots.
@@ -163,13 +155,11 @@ pub fn take_frame(
 {
     // The head is taken field by field: a call for it would copy the whole state.
     let mut t = s;
-    let edition = t.edition;
     let watched = t.watched;
     let positions = t.desks;
     let slots = t.slots;
     let head = Head {
         spacecraft: t.spacecraft,
-        edition: edition,
         channels: t.channels,
         watched: watched,
         desks: positions,

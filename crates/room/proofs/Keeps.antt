@@ -74,7 +74,7 @@ module _ {s t : Station} {k : ℕ} {x : Slot} (r : Refiled s k x t) where
 
   pub refiled-set_up : SetUp s → SetUp t
   refiled-set_up u =
-      rw r.frame (record { edition = u.edition; some = u.some; few = u.few; low = u.low; distinct = u.distinct; store = u.store; least = u.least })
+      rw r.frame (record { some = u.some; few = u.few; low = u.low; distinct = u.distinct; store = u.store; least = u.least })
 
   pub refiled-desks : (desks : List ℕ) → DesksSound s desks → DesksSound t desks
   refiled-desks desks d = rw r.frame (record { octets = d.octets })

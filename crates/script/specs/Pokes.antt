@@ -1,4 +1,4 @@
--- Q: "field a, index b" of the state "becomes d, modulo the field's width"; "an index past the array, or a over 13, does nothing": `set` past
+-- Q: "field a, index b" of the state "becomes d, modulo the field's width"; "an index past the array, or a over 12, does nothing": `set` past
 -- the end of an array changes nothing. Assumes nothing.
 use Rattle.std.specs.Prelude.{not, ◌&&◌, ℕ, ◌%◌, ◌^◌, eqb, leb, set}
 use Rattle.octets.specs.Choice.{if◌then◌else◌}
@@ -27,13 +27,12 @@ slot_poked a d x =
       accepted = if eqb a 12 then d % 2 ^ 16 else x.accepted;
     }
 
--- "0 spacecraft; 1 number of channels; 2 channel b; .. 6 number of blocks; 7 owner of block b; .. 13 edition"; "Widths in bits: fields 0, 1, 2,
--- 7, 8: 8; 3, 6, 9, 11, 12, 13: 16; 5: 32; 10: 64"; "fields 0, 1, 6 and 13 have no index"
+-- "0 spacecraft; 1 number of channels; 2 channel b; .. 6 number of blocks; 7 owner of block b"; "Widths in bits: fields 0, 1, 2, 7, 8: 8; 3,
+-- 6, 9, 11, 12: 16; 5: 32; 10: 64"
 unfoldable pub poked : ℕ → ℕ → ℕ → Station → Station
 poked a b d s =
     record {
       spacecraft = if eqb a 0 then d % 2 ^ 8 else s.spacecraft;
-      edition = if eqb a 13 then record { 0 = d % 2 ^ 16 } else s.edition;
       channels = if eqb a 1 then d % 2 ^ 8 else s.channels;
       watched = if eqb a 2 then set s.watched b (record { 0 = d % 2 ^ 8 }) else s.watched;
       desks = if leb 3 a && leb a 5 then set s.desks b (desk_poked a d (desk_at s b)) else s.desks;

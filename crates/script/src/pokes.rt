@@ -1,11 +1,11 @@
 // M, P and Q: what is lent, and octets and fields that a script sets.
-ghost use Rattle.std.specs.Prelude.{◌≡◌, ◌%◌, ◌^◌, ◌≤◌, set, get_or};
+ghost use Rattle.std.specs.Prelude.{◌≡◌, ◌%◌, ◌^◌, set, get_or};
 ghost use Rattle.state.specs.Slots.{no_file, empty_desk};
 ghost use Rattle.script.specs.Memory.{memory, lent, octet_set, poked_by};
 ghost use Rattle.script.specs.Pokes.{desk_poked, slot_poked, poked};
 
 use crate::{Command, Run};
-use frame::{Channel, Counter, Edition};
+use frame::{Channel, Counter};
 use packet::{Application, Count};
 use state::{Desk, Slot, Station};
 
@@ -128,37 +128,6 @@ fn poke_slots(slots: [Slot; 32], a: u8, b: u16, d: u64) -> [Slot; 32]
     after
 }
 
-// A field from 6 on: the number of blocks, an owner, one of a slot's fields, or the edition.
-fn poke_rest(s: Station, a: u8, b: u16, d: u64) -> Station
-    requires { 6 ≤ a }
-    ensures { result ≡ poked a b d s }
-{
-    let mut t = s;
-    if a == 6 {
-        t.blocks = (d % 65536) as u16;
-        return t;
-    }
-    if a == 7 {
-        let i = b as usize;
-        if i < Station::MOST_BLOCKS as usize {
-            t.owner[i] = (d % 256) as u8;
-        }
-        return t;
-    }
-    if a <= 12 {
-        let slots = t.slots;
-        let after = poke_slots(slots, a, b, d);
-        t.slots = after;
-        return t;
-    }
-    if a == 13 {
-        let edition = Edition((d % 65536) as u16);
-        t.edition = edition;
-        return t;
-    }
-    t
-}
-
 // Field a of the state, of index b where it is an array, becomes d modulo its width.
 fn poke_state(s: Station, a: u8, b: u16, d: u64) -> Station
     ensures { result ≡ poked a b d s }
@@ -184,7 +153,24 @@ fn poke_state(s: Station, a: u8, b: u16, d: u64) -> Station
         t.desks = after;
         return t;
     }
-    poke_rest(t, a, b, d)
+    if a == 6 {
+        t.blocks = (d % 65536) as u16;
+        return t;
+    }
+    if a == 7 {
+        let i = b as usize;
+        if i < Station::MOST_BLOCKS as usize {
+            t.owner[i] = (d % 256) as u8;
+        }
+        return t;
+    }
+    if a <= 12 {
+        let slots = t.slots;
+        let after = poke_slots(slots, a, b, d);
+        t.slots = after;
+        return t;
+    }
+    t
 }
 
 // M, P or Q, by the letter. They print nothing.

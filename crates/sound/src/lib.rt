@@ -6,7 +6,7 @@ ghost use Rattle.std.specs.Prelude.{◌≡◌, map, length, take};
 ghost use Rattle.state.specs.Slots.{number, station_of};
 ghost use Rattle.state.specs.Decision.{set_up_sound, is_sound};
 
-use frame::{Channel, Edition};
+use frame::Channel;
 use state::{Head, Slot, Station};
 
 // The numbers of the channels.
@@ -24,12 +24,9 @@ fn numbers(watched: [Channel; Channel::MOST]) -> [u8; Channel::MOST]
 }
 
 // Set-up, with the names of the channels watched among eight.
-fn set_up_sound(edition: Edition, channels: u8, names: [u8; Channel::MOST], blocks: u16) -> bool
-    ensures { result ≡ set_up_sound edition channels (take channels names) blocks }
+fn set_up_sound(channels: u8, names: [u8; Channel::MOST], blocks: u16) -> bool
+    ensures { result ≡ set_up_sound channels (take channels names) blocks }
 {
-    if !edition.is_good() {
-        return false;
-    }
     if channels > Station::MOST_CHANNELS {
         return false;
     }
@@ -48,10 +45,9 @@ pub fn are_parts_sound(head: Head, owner: &[u8], slots: [Slot; Station::SLOTS]) 
     requires { length owner.now ≡ 4096 }
     ensures { result ≡ is_sound (station_of head owner.now slots) }
 {
-    let edition = head.edition;
     let watched = head.watched;
     let names = numbers(watched);
-    if !set_up_sound(edition, head.channels, names, head.blocks) {
+    if !set_up_sound(head.channels, names, head.blocks) {
         return false;
     }
     let n = head.channels as usize;

@@ -2,7 +2,6 @@
 -- 0x begins a number in hexadecimal. Assumes nothing.
 use Rattle.std.specs.Prelude.{◌≡◌, true, List, [], ◌∷◌, ◌++◌, ℕ, ◌/◌, ◌%◌, replicate}
 use Rattle.crc.specs.Crc.{crc_of}
-use Rattle.frame.specs.declared.Edition.{Edition}
 use Rattle.frame.specs.declared.Examined.TheVariants.{Refused}
 use Rattle.frame.specs.declared.Frame.{Frame}
 use Rattle.frame.specs.declared.Pointer.TheVariants.{Offset, NoStart}
@@ -76,11 +75,10 @@ Right (L= l last-packet n) = rest l ≡ n
 Right (frame-header xs version v spacecraft s channel c) =
     frame_of (xs ++ replicate 6 0)
     ≡ record { version = v; spacecraft = s; channel = record { 0 = c }; counter = record { 0 = 0 }; pointer = 0 }
--- under every edition (02, 6/14)
-Right (pointer p good) = (edition : Edition) → pointer_meaning edition p ≡ Offset p
--- under every edition too, of spacecraft 1, with channel 0 watched
-Right (pointer p refused-by k) = (edition : Edition) → examined_header edition 1 (record { 0 = 0 } ∷ []) (pointing p) ≡ Refused k
-Right (pointer p no_start) = (edition : Edition) → pointer_meaning edition p ≡ NoStart
+Right (pointer p good) = pointer_meaning p ≡ Offset p
+-- of spacecraft 1, with channel 0 watched
+Right (pointer p refused-by k) = examined_header 1 (record { 0 = 0 } ∷ []) (pointing p) ≡ Refused k
+Right (pointer p no_start) = pointer_meaning p ≡ NoStart
 Right (count a then b follows) = count_follows (record { 0 = a }) (record { 0 = b }) ≡ true
 Right (counter a then b follows) = counter_follows (record { 0 = a }) (record { 0 = b }) ≡ true
 Right (application a length n good) =

@@ -1,7 +1,6 @@
 -- The tests of soundness answer true exactly if the state is sound, clause by clause. Assumes nothing.
 use mathlib.Core.Path.{◌≡◌, refl, sym, ap, subst, ◌∙◌}
 use mathlib.Core.Bool.{Bool, true, false, ◌&&◌, true≢false}
-use mathlib.Core.Logic.{◌⊎◌}
 use mathlib.Core.List.{List, [], ◌∷◌}
 use Prim.Native.Nat.{ℕ, zero, suc, ◌+◌, ◌-◌, ◌*◌, ◌≤◌, ◌<◌}
 use native.Mathlib.Nat.{add-zero, zero-add, add-suc, suc-add}
@@ -13,7 +12,7 @@ use lib.Seq.{length-take-le, get_or-take, get_or-drop}
 use Rattle.octets.specs.Choice.{if◌then◌else◌, Decides}
 use Rattle.octets.specs.Choice.Decides.{holds, fails}
 use Rattle.octets.specs.Each.{each}
-use Rattle.octets.proofs.Decide.{decides-same, told-true, tells, decides-by, decides-self, decides-leb, decides_ltb, decides_eqb, decides-then, ◌and◌, decides_or, decides_not, decides-if, decides-unless, decides_below, decides-some, decides-apart}
+use Rattle.octets.proofs.Decide.{decides-same, told-true, tells, decides-by, decides-self, decides-leb, decides_ltb, decides_eqb, decides-then, ◌and◌, decides_not, decides-if, decides-unless, decides_below, decides-some, decides-apart}
 use Rattle.octets.specs.Buffer.{all_zero}
 use Rattle.octets.proofs.Below.{Below, Some, Apart, neither, below_none, below-cons, below-tail, some-none, apart_none, apart_cons, apart-head, apart-tail}
 use Rattle.octets.proofs.Each.{decides-each}
@@ -21,8 +20,6 @@ use Rattle.octets.proofs.Lists.{whole_part}
 use Rattle.octets.proofs.Tests.{true-unless}
 use Rattle.octets.proofs.Zero.{all-blank, blank-at}
 use Rattle.frame.specs.declared.Channel.{Channel}
-use Rattle.frame.specs.declared.Edition.{Edition}
-use Rattle.frame.specs.Kinds.{good_edition}
 use Rattle.packet.specs.declared.Application.{Application}
 use Rattle.packet.specs.declared.Packet.{Packet}
 use Rattle.packet.specs.declared.Look.TheVariants.{Bad, Good}
@@ -64,11 +61,6 @@ pub channels-exactly : (cs : List ℕ) → Decides (((1 ≤ length cs) × (lengt
 unfolding good_channels
 channels-exactly cs = decides-leb 1 (length cs) and decides-leb (length cs) 8 and distinct-exactly cs
 
--- "the edition, 701 or 732"
-pub edition-exactly : (edition : Edition) → Decides ((edition.0 ≡ 701) ⊎ (edition.0 ≡ 732)) (good_edition edition)
-unfolding good_edition
-edition-exactly edition = decides_or (decides_eqb edition.0 701) (decides_eqb edition.0 732)
-
 -- as many names as channels, as many owners as blocks, and as many desks as channels, where the arrays have room for them
 pub named-length : {s : Station} → Sized s → s.channels ≤ 8 → length (named s) ≡ s.channels
 named-length {s} z few = length-map (take s.channels s.watched) number ∙ length-take-le s.channels s.watched (omega arith)
@@ -79,14 +71,13 @@ table-length {s} z few = length-take-le s.blocks s.owner (omega arith)
 pub desks-length : {s : Station} → Sized s → s.channels ≤ 8 → length (take s.channels s.desks) ≡ s.channels
 desks-length {s} z few = length-take-le s.channels s.desks (omega arith)
 
-pub set_up-exactly : (s : Station) → Sized s → Decides (SetUp s) (set_up_sound s.edition s.channels (named s) s.blocks)
+pub set_up-exactly : (s : Station) → Sized s → Decides (SetUp s) (set_up_sound s.channels (named s) s.blocks)
 unfolding set_up_sound
 set_up-exactly s z =
     decides-same
-    (λ ((((edition, few), ((one, eight), (low, apart))), store), least).
+    (λ (((few, ((one, eight), (low, apart))), store), least).
     let n : length (named s) ≡ s.channels = named-length z few in
     record {
-      edition = edition;
       some = omega arith;
       few = few;
       low = λ i l. low i (omega arith);
@@ -98,8 +89,8 @@ set_up-exactly s z =
     let n : length (named s) ≡ s.channels = named-length z u.few in
     let low : Low (named s) = λ i l. u.low i (omega arith) in
     let apart : Distinct (named s) = λ i j p l e. omega (arith, u.distinct i j (omega arith) (omega arith) (sym e)) in
-    ((((u.edition, u.few), ((omega arith, omega arith), (low, apart))), u.store), u.least))
-    (edition-exactly s.edition and decides-leb s.channels 8 and channels-exactly (named s) and decides-leb 1 s.blocks and decides-leb s.blocks 4096)
+    (((u.few, ((omega arith, omega arith), (low, apart))), u.store), u.least))
+    (decides-leb s.channels 8 and channels-exactly (named s) and decides-leb 1 s.blocks and decides-leb s.blocks 4096)
 
 -- a slot is held from the first packet on
 pub held-accepted : (x : Slot) → held x ≡ true → 1 ≤ x.accepted

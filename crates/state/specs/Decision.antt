@@ -3,8 +3,6 @@ use Rattle.std.specs.Prelude.{Bool, true, false, not, ◌&&◌, ◌||◌, List, 
 use Rattle.octets.specs.Choice.{if◌then◌else◌}
 use Rattle.octets.specs.Buffer.{all_zero}
 use Rattle.octets.specs.Each.{each}
-use Rattle.frame.specs.declared.Edition.{Edition}
-use Rattle.frame.specs.Kinds.{good_edition}
 use Rattle.packet.specs.declared.Look.{Look}
 use Rattle.packet.specs.declared.Look.TheVariants.{Short, Bad, Good}
 use Rattle.packet.specs.Header.{look_of, size_of}
@@ -29,9 +27,9 @@ distinct_channels (c ∷ cs) = leb c 62 && not (among c cs) && distinct_channels
 unfoldable pub good_channels : List ℕ → Bool
 good_channels cs = leb 1 (length cs) && leb (length cs) 8 && distinct_channels cs
 
--- set-up: the edition, so many channels, those named among them, and so many blocks
-unfoldable pub set_up_sound : Edition → ℕ → List ℕ → ℕ → Bool
-set_up_sound edition channels names blocks = good_edition edition && leb channels 8 && good_channels names && leb 1 blocks && leb blocks 4096
+-- set-up: so many channels, those named among them, and so many blocks
+unfoldable pub set_up_sound : ℕ → List ℕ → ℕ → Bool
+set_up_sound channels names blocks = leb channels 8 && good_channels names && leb 1 blocks && leb blocks 4096
 
 -- an owner: 0 for none, else a slot's number plus 1
 abbrev pub is_owner : ℕ → Bool
@@ -81,7 +79,7 @@ desk_holds d = leb d.held 8197 && ltb d.counter.0 0x1000000 && (d.seen || eqb d.
 -- what the state alone says
 unfoldable pub is_sound : Station → Bool
 is_sound s =
-    set_up_sound s.edition s.channels (named s) s.blocks && each is_owner (table s) && slots_sound (named s) (block_counts (table s) 0 32) s.slots
+    set_up_sound s.channels (named s) s.blocks && each is_owner (table s) && slots_sound (named s) (block_counts (table s) 0 32) s.slots
     && no_twins s.slots
     && each desk_holds (take s.channels s.desks)
 

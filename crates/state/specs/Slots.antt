@@ -1,7 +1,6 @@
 -- "There are 32 file slots, numbered from 0." Assumes nothing.
 use Rattle.std.specs.Prelude.{Bool, false, not, ◌&&◌, List, map, ℕ, eqb, get_or, set, take, replicate}
 use Rattle.frame.specs.declared.Channel.{Channel}
-use Rattle.frame.specs.declared.Edition.{Edition}
 use Rattle.packet.specs.declared.Application.{Application}
 use Rattle.transport.specs.Length.{need}
 use Rattle.state.specs.declared.Slot.{Slot}
@@ -54,7 +53,6 @@ abbrev pub head_of : Station → Head
 head_of s =
     record {
       spacecraft = s.spacecraft;
-      edition = s.edition;
       channels = s.channels;
       watched = s.watched;
       desks = s.desks;
@@ -64,21 +62,13 @@ head_of s =
 -- the same with another desk i
 abbrev pub on_desk : Head → ℕ → Desk → Head
 on_desk h i d =
-    record {
-      spacecraft = h.spacecraft;
-      edition = h.edition;
-      channels = h.channels;
-      watched = h.watched;
-      desks = set h.desks i d;
-      blocks = h.blocks;
-    }
+    record { spacecraft = h.spacecraft; channels = h.channels; watched = h.watched; desks = set h.desks i d; blocks = h.blocks }
 
 -- the state of the parts: its head, the blocks' owners and the slots
 abbrev pub station_of : Head → List ℕ → List Slot → Station
 station_of h owners slots =
     record {
       spacecraft = h.spacecraft;
-      edition = h.edition;
       channels = h.channels;
       watched = h.watched;
       desks = h.desks;
@@ -87,26 +77,11 @@ station_of h owners slots =
       slots = slots;
     }
 
--- the same state under another edition
-abbrev pub with_edition : Edition → Station → Station
-with_edition edition s =
-    record {
-      spacecraft = s.spacecraft;
-      edition = edition;
-      channels = s.channels;
-      watched = s.watched;
-      desks = s.desks;
-      blocks = s.blocks;
-      owner = s.owner;
-      slots = s.slots;
-    }
-
 -- "a refused set-up's state is all zero, which isn't sound"
 abbrev pub all_zero_state : Station
 all_zero_state =
     record {
       spacecraft = 0;
-      edition = record { 0 = 0 };
       channels = 0;
       watched = replicate 8 (record { 0 = 0 });
       desks = replicate 8 empty_desk;

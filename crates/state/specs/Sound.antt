@@ -1,5 +1,5 @@
 -- "A state is sound when:", clause by clause. Assumes nothing.
-use Rattle.std.specs.Prelude.{◌≡◌, true, false, ◌⊎◌, List, ℕ, ◌-◌, ◌*◌, ◌≤◌, ◌<◌, length, get_or}
+use Rattle.std.specs.Prelude.{◌≡◌, true, false, List, ℕ, ◌-◌, ◌*◌, ◌≤◌, ◌<◌, length, get_or}
 use Rattle.octets.specs.Number.{part}
 use Rattle.packet.specs.Header.{packet_of, size_of, bad}
 use Rattle.transport.specs.Length.{good_length}
@@ -15,9 +15,8 @@ pub record Sized (s : Station) : Type 0 where
   pub owner : length s.owner ≡ 4096
   pub slots : length s.slots ≡ 32
 
--- "set-up is as above": "the edition, 701 or 732" (02, 6/14), "1 to 8 distinct channels 0 to 62", "1 to 4,096 blocks"
+-- "set-up is as above": "1 to 8 distinct channels 0 to 62", "1 to 4,096 blocks"
 pub record SetUp (s : Station) : Type 0 where
-  pub edition : (s.edition.0 ≡ 701) ⊎ (s.edition.0 ≡ 732)
   pub some : 1 ≤ s.channels
   pub few : s.channels ≤ 8
   pub low : (i : ℕ) → i < s.channels → get_or (named s) i 0 ≤ 62

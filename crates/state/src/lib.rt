@@ -5,7 +5,7 @@
 ghost use Rattle.std.specs.Prelude.{◌≡◌, ◌&&◌};
 ghost use Rattle.state.specs.Slots.{no_file, held, need_of, complete, incomplete, of_pair, head_of, all_zero_state};
 
-use frame::{Channel, Counter, Edition};
+use frame::{Channel, Counter};
 use packet::{Application, Count, Packet};
 
 // A file slot. It is held exactly if a packet was accepted for it; the need follows from the length, and it is complete exactly if as many
@@ -111,7 +111,6 @@ impl Desk {
 #[derive(Drop)]
 pub struct Station {
     pub spacecraft: u8,
-    pub edition: Edition,
     pub channels: u8,
     pub watched: [Channel; Channel::MOST],
     pub desks: [Desk; Channel::MOST],
@@ -124,7 +123,6 @@ pub struct Station {
 #[derive(Drop)]
 pub struct Head {
     pub spacecraft: u8,
-    pub edition: Edition,
     pub channels: u8,
     pub watched: [Channel; Channel::MOST],
     pub desks: [Desk; Channel::MOST],
@@ -144,7 +142,6 @@ impl Station {
     pub fn zero() -> Station
         ensures { result ≡ all_zero_state }
     {
-        let edition = Edition(0);
         let counter = Counter(0);
         let desk = Desk {
             held: 0,
@@ -155,7 +152,6 @@ impl Station {
         let slots = NO_FILES;
         Station {
             spacecraft: 0,
-            edition: edition,
             channels: 0,
             watched: [channel; Channel::MOST],
             desks: [desk; Channel::MOST],
@@ -168,12 +164,10 @@ impl Station {
     pub fn head(self) -> Head
         ensures { result ≡ head_of self }
     {
-        let edition = self.edition;
         let watched = self.watched;
         let desks = self.desks;
         Head {
             spacecraft: self.spacecraft,
-            edition: edition,
             channels: self.channels,
             watched: watched,
             desks: desks,

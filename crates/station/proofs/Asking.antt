@@ -9,7 +9,6 @@ use Rattle.octets.proofs.Tests.{and_left, and_right}
 use Rattle.state.specs.declared.Slot.{Slot}
 use Rattle.state.specs.declared.Station.{Station}
 use Rattle.state.specs.Slots.{slot_at, held, complete, need_of, named}
-use Rattle.frame.specs.Kinds.{good_edition}
 use Rattle.state.specs.Decision.{good_channels, set_up_sound, is_sound}
 use Rattle.station.specs.Files.{is_held, asked}
 use Rattle.station.specs.declared.Asked.{Asked}
@@ -47,7 +46,7 @@ pub sound-store : (s : Station) → is_sound s ≡ true → s.blocks ≤ 4096
 unfolding is_sound set_up_sound
 sound-store s e =
     leb-true s.blocks 4096
-    (and_right (good_edition s.edition && leb s.channels 8 && good_channels (named s) && leb 1 s.blocks) _ (and_left _ _ (and_left _ _ (and_left _ _ (and_left _ _ e)))))
+    (and_right (leb s.channels 8 && good_channels (named s) && leb 1 s.blocks) _ (and_left _ _ (and_left _ _ (and_left _ _ (and_left _ _ e)))))
 
 -- what it tells that a slot is not refused
 pub record Known (s : Station) (k : ℕ) : Type 0 where

@@ -7,14 +7,13 @@ use mathlib.Core.List.{List, [], ◌∷◌, map}
 use Prim.Native.Nat.{ℕ, suc, ◌*◌, ◌/◌, ◌≤◌, ◌<◌}
 use native.Mathlib.Decide.{ℕ_discrete}
 use native.Mathlib.Omega.{arith}
-use borrow.Author.Tests.{not-false, ltb-true, lt-ltb, le-leb, lt-leb, eqb-true, eqb-false}
+use borrow.Author.Tests.{not-false, ltb-true, lt-ltb, le-leb, lt-leb, eqb-true}
 use lib.Dec.{ltb, leb, eqb}
 use lib.ListN.{length, take, replicate, length-replicate}
 use Rattle.octets.specs.Choice.{if◌then◌else◌}
 use Rattle.octets.specs.Number.{part}
-use Rattle.octets.proofs.Lists.{if-map, if-cases}
+use Rattle.octets.proofs.Lists.{if-map}
 use Rattle.frame.specs.declared.Channel.{Channel}
-use Rattle.frame.specs.declared.Edition.{Edition}
 use Rattle.frame.specs.declared.Examined.{Examined}
 use Rattle.frame.specs.declared.Examined.TheVariants.{Refused, Good}
 use Rattle.frame.specs.declared.Frame.{Frame}
@@ -23,7 +22,7 @@ use Rattle.frame.specs.declared.Pointer.TheVariants as pointer
 use Rattle.frame.specs.declared.Pointer.TheVariants.{Offset, NoStart}
 use Rattle.frame.specs.declared.Watch.{Watch}
 use Rattle.frame.specs.declared.Watch.TheVariants.{Desk, NotWatched}
-use Rattle.frame.specs.Kinds.{good_edition, desk_from, desk_of}
+use Rattle.frame.specs.Kinds.{desk_from, desk_of}
 use Rattle.frame.specs.Header.{derandomised, frame_of, pointer_meaning}
 use Rattle.frame.specs.Refusals.{pointed, watched_by, examined_header, examined}
 use Rattle.frame.proofs.Fields.{bounded}
@@ -31,12 +30,12 @@ use Rattle.frame.proofs.Pointers.{Means, means}
 use Rattle.transport.specs.Length.{octets_of_bits}
 use Rattle.state.specs.declared.Station.{Station}
 use Rattle.state.specs.Slots.{slot_at, held, complete, number, all_zero_state}
-use Rattle.state.specs.Decision.{among, is_sound, are_desks_sound}
+use Rattle.state.specs.Decision.{among, good_channels, is_sound, are_desks_sound}
 use Rattle.octets.proofs.Tests.{and_left, and_right}
 use Rattle.room.specs.Move.{let_go}
 use Rattle.room.specs.File.{file_octets}
 use Rattle.room.proofs.Keeps.{refiled-sized, refiled-desks, let_go-refiles, let_go-sound}
-use Rattle.station.specs.SetUp.{SetUpOutcome, set_up_gives, desks_fit, whole_blocks, fresh_station, good_names, set_up}
+use Rattle.station.specs.SetUp.{SetUpOutcome, set_up_gives, desks_fit, whole_blocks, fresh_station, set_up}
 use Rattle.station.specs.Files.{is_held, asked, freed, kept, let_go_as, file_let_go, ReadOutcome, read_gives, store_fits, within, read_as, read_out, facts_in, told_as, told_of, told_number}
 use Rattle.station.specs.declared.LetGo.{LetGo}
 use Rattle.station.specs.declared.Asked.{Asked}
@@ -46,18 +45,18 @@ use Rattle.station.specs.declared.Told.TheVariants as told
 use Rattle.station.specs.declared.Told.TheVariants.{Known}
 use Rattle.station.specs.Frame.{FrameOutcome, frame_gives, admitted, taken, examined_frame, framed}
 use Rattle.octets.specs.Reasons.{Reason, decided, applies}
-use Rattle.station.specs.Answers.{SoundWithMemory, set_up_says, slot_says, let_go_says, read_says, told_says, last_refused, frame_header_says, frame_says, seat, accepted_as, walked_as}
+use Rattle.station.specs.Answers.{SoundWithMemory, set_up_says, slot_says, let_go_says, read_says, told_says, frame_header_says, frame_says, seat, accepted_as, walked_as}
 use Rattle.octets.specs.Reasons.Reason.{◌when◌}
 use Rattle.station.proofs.Asking.{complete-held}
 use Rattle.octets.proofs.Reasons.{None}
 use Rattle.station.proofs.Decided.{Outcome, outcome, never}
 use Rattle.station.proofs.Fresh.{few-channels, whole-store, fresh-sized, fresh-sound, fresh-desks}
 
-pub set_up-is : (craft : ℕ) (edition : Edition) (channels desks store : List ℕ) → set_up craft edition channels desks store
-    ≡ decided (set_up_says edition channels desks store) (set_up_gives 0 (fresh_station craft edition channels (length store / 8190)) (replicate (length desks) 0))
+pub set_up-is : (craft : ℕ) (channels desks store : List ℕ) → set_up craft channels desks store
+    ≡ decided (set_up_says channels desks store) (set_up_gives 0 (fresh_station craft channels (length store / 8190)) (replicate (length desks) 0))
     (λ (n : ℕ). set_up_gives n all_zero_state desks)
 unfolding set_up
-set_up-is craft edition channels desks store = refl
+set_up-is craft channels desks store = refl
 
 -- a slot that is asked for, under what comes of the answer
 asked_is : {A : Type 0} (f : Asked → A) (s : Station) (k : ℕ) → f (asked s k)
@@ -109,40 +108,27 @@ named-seat i (w ∷ ws) c = by (eqb w.0 c.0) (named-seat (suc i) ws c)
 
 -- a header that is examined, under what comes of the answer
 module _ {A : Type 0} (g : Examined → A) (h : Frame) (few : h.pointer < 2048) where
-  pointed-is : (edition : Edition) (d : ℕ) (m : Pointer) → Means edition h.pointer m
+  pointed-is : (d : ℕ) (m : Pointer) → Means h.pointer m
       → g (pointed d h m)
-      ≡ (if leb 884 h.pointer && leb h.pointer (last_refused edition) then g (Refused 9)
+      ≡ (if leb 884 h.pointer && leb h.pointer 2046 then g (Refused 9)
       else g (Good (record { desk = d; counter = h.counter; pointer = m })))
-  pointed-is edition d (Offset q) (same, low) = rw (lt-leb 884 h.pointer low)
-  pointed-is edition d NoStart e =
-      let beyond : last_refused edition < h.pointer = if-cases (λ (n : ℕ). n < h.pointer) (eqb edition.0 732) (λ l. omega arith) (λ l. omega arith) in
-      rw (lt-leb h.pointer (last_refused edition) beyond, and-false)
-  pointed-is edition d pointer.Idle (e, later) =
-      let beyond : last_refused edition < h.pointer =
-      if-cases (λ (n : ℕ). n < h.pointer) (eqb edition.0 732) (λ l. omega arith) (λ l. absurd (eqb-false edition.0 732 l later)) in
-      rw (lt-leb h.pointer (last_refused edition) beyond, and-false)
-  pointed-is edition d pointer.Refused (from, other, later) =
-      let within : h.pointer ≤ last_refused edition =
-      if-cases (λ (n : ℕ). h.pointer ≤ n) (eqb edition.0 732)
-      (λ l.
-      let n : h.pointer ≡ 2046 → ⊥ = λ e. later (e, eqb-true edition.0 732 l) in
-      omega (arith, other, n))
-      (λ l. omega (arith, other)) in
-      rw (le-leb 884 h.pointer from, le-leb h.pointer (last_refused edition) within)
+  pointed-is d (Offset q) (same, low) = rw (lt-leb 884 h.pointer low)
+  pointed-is d NoStart e = rw (lt-leb h.pointer 2046 (omega arith), and-false)
+  pointed-is d pointer.Refused (from, other) = rw (le-leb 884 h.pointer from, le-leb h.pointer 2046 (omega arith))
 
-  watched-is : (edition : Edition) (w : Watch) → g (watched_by edition h w)
+  watched-is : (w : Watch) → g (watched_by h w)
       ≡ (if not (has_seat w) then g (Refused 8)
-      else if leb 884 h.pointer && leb h.pointer (last_refused edition) then g (Refused 9)
-      else g (Good (record { desk = seat w; counter = h.counter; pointer = pointer_meaning edition h.pointer })))
-  watched-is edition (Desk d) = pointed-is edition d (pointer_meaning edition h.pointer) (means edition h.pointer)
-  watched-is edition NotWatched = refl
+      else if leb 884 h.pointer && leb h.pointer 2046 then g (Refused 9)
+      else g (Good (record { desk = seat w; counter = h.counter; pointer = pointer_meaning h.pointer })))
+  watched-is (Desk d) = pointed-is d (pointer_meaning h.pointer) (means h.pointer)
+  watched-is NotWatched = refl
 
-  header_is : (s : Station) → g (examined_header s.edition s.spacecraft (take s.channels s.watched) h)
+  header_is : (s : Station) → g (examined_header s.spacecraft (take s.channels s.watched) h)
       ≡ decided (frame_header_says s h) (g (Good (accepted_as s h))) (λ (n : ℕ). g (Refused n))
   unfolding examined_header desk_of
   header_is s =
       let ws = take s.channels s.watched in
-      simp (if-map g, watched-is s.edition (desk_from 0 ws h.channel), named-seat 0 ws h.channel)
+      simp (if-map g, watched-is (desk_from 0 ws h.channel), named-seat 0 ws h.channel)
 
 module _ (s : Station) (desks store list f : List ℕ) where
   pub frame_is : framed s desks store list f
@@ -169,13 +155,12 @@ module _ (s : Station) (k : ℕ) where
   unfolding among
   told-outcome store = rw (told_is s k store) (outcome _ (told_says s store k) _ _ refl (λ n. refl) refl)
 
-pub set_up-outcome : (craft : ℕ) (edition : Edition) (channels desks store : List ℕ)
-    → Outcome (λ (r : SetUpOutcome). r.answer) (set_up_says edition channels desks store)
-    (set_up_gives 0 (fresh_station craft edition channels (length store / 8190)) (replicate (length desks) 0)) (λ (n : ℕ). set_up_gives n all_zero_state desks)
-    (set_up craft edition channels desks store)
+pub set_up-outcome : (craft : ℕ) (channels desks store : List ℕ) → Outcome (λ (r : SetUpOutcome). r.answer) (set_up_says channels desks store)
+    (set_up_gives 0 (fresh_station craft channels (length store / 8190)) (replicate (length desks) 0)) (λ (n : ℕ). set_up_gives n all_zero_state desks)
+    (set_up craft channels desks store)
 unfolding among
-set_up-outcome craft edition channels desks store =
-    rw (set_up-is craft edition channels desks store) (outcome _ (set_up_says edition channels desks store) _ _ refl (λ n. refl) refl)
+set_up-outcome craft channels desks store =
+    rw (set_up-is craft channels desks store) (outcome _ (set_up_says channels desks store) _ _ refl (λ n. refl) refl)
 
 pub frame-outcome : (s : Station) (desks store list f : List ℕ) → Outcome (λ (r : FrameOutcome). r.answer) (frame_says s desks store list f)
     (taken s list (walked_as s desks store f)) (λ (n : ℕ). frame_gives n 0 s desks store list) (framed s desks store list f)
@@ -195,9 +180,8 @@ module _ (s : Station) (k : ℕ) where
   pub told-answers : (store : List ℕ) → among (told_number (told_of s store k)) (0 ∷ 1 ∷ 2 ∷ 11 ∷ 12 ∷ []) ≡ true
   told-answers store = (told-outcome s k store).one_of
 
-pub set_up-answers : (craft : ℕ) (edition : Edition) (channels desks store : List ℕ)
-    → among (set_up craft edition channels desks store).answer (0 ∷ 10 ∷ 1 ∷ []) ≡ true
-set_up-answers craft edition channels desks store = (set_up-outcome craft edition channels desks store).one_of
+pub set_up-answers : (craft : ℕ) (channels desks store : List ℕ) → among (set_up craft channels desks store).answer (0 ∷ 10 ∷ 1 ∷ []) ≡ true
+set_up-answers craft channels desks store = (set_up-outcome craft channels desks store).one_of
 
 pub frame-answers : (s : Station) (desks store list f : List ℕ)
     → among (framed s desks store list f).answer (0 ∷ 1 ∷ 2 ∷ 3 ∷ 4 ∷ 5 ∷ 6 ∷ 7 ∷ 8 ∷ 9 ∷ []) ≡ true
@@ -220,9 +204,8 @@ pub frame-lowest : (s : Station) (desks store list f : List ℕ) (n : ℕ) → a
     → (1 ≤ (framed s desks store list f).answer) × ((framed s desks store list f).answer ≤ n)
 frame-lowest s desks store list f = (frame-outcome s desks store list f).lowest refl
 
-pub set_up-ten : (craft : ℕ) (edition : Edition) (channels desks store : List ℕ) → good_names edition channels ≡ false
-    → (set_up craft edition channels desks store).answer ≡ 10
-set_up-ten craft edition channels desks store bad = rw (set_up-is craft edition channels desks store, bad)
+pub set_up-ten : (craft : ℕ) (channels desks store : List ℕ) → good_channels channels ≡ false → (set_up craft channels desks store).answer ≡ 10
+set_up-ten craft channels desks store bad = rw (set_up-is craft channels desks store, bad)
 
 -- none of the reasons that come first holds of a slot
 asked-exactly : (s : Station) (k : ℕ) (rs : List Reason)
@@ -282,16 +265,16 @@ module _ (s : Station) (k : ℕ) where
         λ (f, sound, low, w). o.1 (rw f, a.1 (sound, low, complete-held (slot_at s k) w, (rw w, tt))),
       )
 
-pub set_up-zero : (craft : ℕ) (edition : Edition) (channels desks store : List ℕ) → ((set_up craft edition channels desks store).answer ≡ 0)
-    ↔ ((good_names edition channels ≡ true) × (desks_fit (length channels) desks ≡ true) × (whole_blocks store ≡ true))
-set_up-zero craft edition channels desks store =
-    let o = (set_up-outcome craft edition channels desks store).zero in
+pub set_up-zero : (craft : ℕ) (channels desks store : List ℕ) → ((set_up craft channels desks store).answer ≡ 0)
+    ↔ ((good_channels channels ≡ true) × (desks_fit (length channels) desks ≡ true) × (whole_blocks store ≡ true))
+set_up-zero craft channels desks store =
+    let o = (set_up-outcome craft channels desks store).zero in
     let fits = desks_fit (length channels) desks in
     let whole = whole_blocks store in (
       λ e.
           let (g, (m, u)) = o.0 e in
           let lent = not-false (fits && whole) m in
-          (not-false (good_names edition channels) g, and_left fits whole lent, and_right fits whole lent),
+          (not-false (good_channels channels) g, and_left fits whole lent, and_right fits whole lent),
       λ (g, f, w). o.1 (rw g, (rw (f, w), tt)),
     )
 
@@ -333,25 +316,25 @@ module _ (s : Station) (k : ℕ) where
             stored = h.stored;
           }
 
-module _ (craft : ℕ) (edition : Edition) (channels desks store : List ℕ) where
-  fresh-ready : good_names edition channels ≡ true → desks_fit (length channels) desks ≡ true → whole_blocks store ≡ true
-      → SoundWithMemory (fresh_station craft edition channels (length store / 8190)) (replicate (length desks) 0) store
+module _ (craft : ℕ) (channels desks store : List ℕ) where
+  fresh-ready : good_channels channels ≡ true → desks_fit (length channels) desks ≡ true → whole_blocks store ≡ true
+      → SoundWithMemory (fresh_station craft channels (length store / 8190)) (replicate (length desks) 0) store
   unfolding fresh_station
   fresh-ready good fit whole =
       let n = length store / 8190 in
       let l : length desks ≡ 8198 * length channels = eqb-true (length desks) (8198 * length channels) fit in
       let w = whole-store store whole in
       record {
-        sized = fresh-sized craft edition channels n (few-channels channels (and_right (good_edition edition) _ good));
-        sound = fresh-sound craft edition channels n good w.one w.most;
-        desks = rw l (fresh-desks craft edition channels n);
+        sized = fresh-sized craft channels n (few-channels channels good);
+        sound = fresh-sound craft channels n good w.one w.most;
+        desks = rw l (fresh-desks craft channels n);
         desked = length-replicate (length desks) 0 ∙ l;
         stored = w.all;
       }
 
   -- a set-up answered by 0
-  pub set_up-ready : (set_up craft edition channels desks store).answer ≡ 0
-      → SoundWithMemory (set_up craft edition channels desks store).station (set_up craft edition channels desks store).desks store
+  pub set_up-ready : (set_up craft channels desks store).answer ≡ 0
+      → SoundWithMemory (set_up craft channels desks store).station (set_up craft channels desks store).desks store
   set_up-ready e =
-      let (good, fit, whole) = (set_up-zero craft edition channels desks store).0 e in
-      rw ((set_up-outcome craft edition channels desks store).done e) (fresh-ready good fit whole)
+      let (good, fit, whole) = (set_up-zero craft channels desks store).0 e in
+      rw ((set_up-outcome craft channels desks store).done e) (fresh-ready good fit whole)

@@ -41,7 +41,7 @@ module _ (s : Station) where
   unfolding is_sound
   desks-hold e =
       and_right
-      (set_up_sound s.edition s.channels (named s) s.blocks && each is_owner (table s) && slots_sound (named s) (block_counts (table s) 0 32) s.slots
+      (set_up_sound s.channels (named s) s.blocks && each is_owner (table s) && slots_sound (named s) (block_counts (table s) 0 32) s.slots
       && no_twins s.slots)
       (each desk_holds (take s.channels s.desks)) e
 
@@ -105,7 +105,7 @@ module _ (s : Station) (desks store list : List ℕ) where
         desks-unsound d = frame_refused (refused-desks d)
 
         pub as-examined : desks_held 0 (take s.channels s.desks) desks ≡ true
-            → examined s.edition s.spacecraft (take s.channels s.watched) f ≡ admitted s desks store list f
+            → examined s.spacecraft (take s.channels s.watched) f ≡ admitted s desks store list f
         unfolding admitted are_desks_sound
         as-examined d = rw (l, e, d)
 
@@ -114,7 +114,7 @@ pub record Admits (s : Station) (desks store list f : List ℕ) (a : Accepted) :
   pub lent : lent_right s desks store list ≡ true
   pub sound : is_sound s ≡ true
   pub orderly : are_desks_sound s desks ≡ true
-  pub good : examined s.edition s.spacecraft (take s.channels s.watched) f ≡ Good a
+  pub good : examined s.spacecraft (take s.channels s.watched) f ≡ Good a
 
 abbrev Told : Station → List ℕ → List ℕ → List ℕ → List ℕ → Examined → Type 0
 Told s desks store list f (Refused n) = Unit
@@ -131,7 +131,7 @@ module _ (s : Station) (desks store list f : List ℕ) where
       by (not-false _ l) (and_left (is_sound s) (are_desks_sound s desks) both) (and_right (is_sound s) (are_desks_sound s desks) both) _ refl))
     where
       by : lent_right s desks store list ≡ true → is_sound s ≡ true → are_desks_sound s desks ≡ true
-          → (x : Examined) → examined s.edition s.spacecraft (take s.channels s.watched) f ≡ x → Told s desks store list f x
+          → (x : Examined) → examined s.spacecraft (take s.channels s.watched) f ≡ x → Told s desks store list f x
       by l h d (Refused n) e = tt
       by l h d (Good a) e = record { lent = l; sound = h; orderly = d; good = e }
 
@@ -145,7 +145,7 @@ zone-here f p = ap (part 8 884) p
 
 module _ {s : Station} {desks store list f : List ℕ} {a : Accepted} (z : Sized s) (A : Admits s desks store list f a) where
   zone-size : length (zone_of (derandomised f)) ≡ 884
-  zone-size = length-zone (derandomised f) (length-derandomised f (good-size _ _ _ f a A.good))
+  zone-size = length-zone (derandomised f) (length-derandomised f (good-size _ _ f a A.good))
 
   desks-on : DesksSound s desks
   desks-on = desks-yes desks z (sound-yes z A.sound) (lent-desks s desks store list A.lent) A.orderly
@@ -160,7 +160,7 @@ module _ {s : Station} {desks store list f : List ℕ} {a : Accepted} (z : Sized
       watched = desk-watched s f a A.good;
       desk = desk-low s f a A.good;
       frame = ap length here ∙ zone-size;
-      start = start-within _ _ _ f a A.good;
+      start = start-within _ _ f a A.good;
       desked = lent-desks s desks store list A.lent;
       stored = lent-store s desks store list A.lent;
       listed = lent-list s desks store list A.lent;

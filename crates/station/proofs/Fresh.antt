@@ -12,14 +12,12 @@ use Rattle.octets.proofs.Below.{neither}
 use Rattle.octets.proofs.Lists.{only-replicate, only-drop, only-take}
 use Rattle.octets.proofs.Decide.{told-true}
 use Rattle.octets.proofs.Tests.{and_left, and_right}
-use Rattle.frame.specs.declared.Edition.{Edition}
-use Rattle.frame.specs.Kinds.{good_edition}
 use Rattle.state.specs.Slots.{no_file, empty_desk, all_zero_state, slot_at, desk_at, held, incomplete, named, number}
 use Rattle.state.specs.Blocks.{table, needs, room}
 use Rattle.state.specs.Sound.{Sized, SetUp, Sound, DesksSound}
 use Rattle.state.specs.Decision.{good_channels, set_up_sound, is_sound}
-use Rattle.state.proofs.Exactly.{edition-exactly, channels-exactly}
-use Rattle.station.specs.SetUp.{whole_blocks, channel_of, fresh_station, good_names}
+use Rattle.state.proofs.Exactly.{channels-exactly}
+use Rattle.station.specs.SetUp.{whole_blocks, channel_of, fresh_station}
 
 -- "1 to 8 distinct channels"
 pub few-channels : (channels : List ℕ) → good_channels channels ≡ true → length channels ≤ 8
@@ -46,8 +44,8 @@ whole-store store whole =
       most = leb-true n 4096 (and_right (even && leb 1 n) (leb n 4096) whole);
     }
 
-module _ (craft : ℕ) (edition : Edition) (channels : List ℕ) (blocks : ℕ) where
-  pub fresh-sized : length channels ≤ 8 → Sized (fresh_station craft edition channels blocks)
+module _ (craft : ℕ) (channels : List ℕ) (blocks : ℕ) where
+  pub fresh-sized : length channels ≤ 8 → Sized (fresh_station craft channels blocks)
   unfolding fresh_station
   fresh-sized few =
       record {
@@ -58,18 +56,17 @@ module _ (craft : ℕ) (edition : Edition) (channels : List ℕ) (blocks : ℕ) 
       }
 
   -- the channels watched are those named
-  pub fresh-named : named (fresh_station craft edition channels blocks) ≡ channels
+  pub fresh-named : named (fresh_station craft channels blocks) ≡ channels
   unfolding fresh_station
   fresh-named =
       ap (map number) (take_at (map channel_of channels) _ (length channels) (length-map channels channel_of))
       ∙ map-map number channel_of channels ∙ map-id channels
 
-  fresh-set_up : good_names edition channels ≡ true → 1 ≤ blocks → blocks ≤ 4096 → SetUp (fresh_station craft edition channels blocks)
+  fresh-set_up : good_channels channels ≡ true → 1 ≤ blocks → blocks ≤ 4096 → SetUp (fresh_station craft channels blocks)
   unfolding fresh_station
   fresh-set_up good one most =
-      let ((some, few), (low, apart)) = told-true (channels-exactly channels) (and_right (good_edition edition) _ good) in
+      let ((some, few), (low, apart)) = told-true (channels-exactly channels) good in
       record {
-        edition = told-true (edition-exactly edition) (and_left _ (good_channels channels) good);
         some = some;
         few = few;
         low = rw fresh-named low;
@@ -79,28 +76,28 @@ module _ (craft : ℕ) (edition : Edition) (channels : List ℕ) (blocks : ℕ) 
       }
 
   -- "all blocks free"
-  pub fresh-free : (b : ℕ) → get_or (table (fresh_station craft edition channels blocks)) b 0 ≡ 0
+  pub fresh-free : (b : ℕ) → get_or (table (fresh_station craft channels blocks)) b 0 ≡ 0
   unfolding fresh_station
   fresh-free = only-take 0 blocks (replicate 4096 0) (only-replicate 0 4096)
 
   -- "no held file"
-  pub fresh-slots : (k : ℕ) → slot_at (fresh_station craft edition channels blocks) k ≡ no_file
+  pub fresh-slots : (k : ℕ) → slot_at (fresh_station craft channels blocks) k ≡ no_file
   unfolding fresh_station
   fresh-slots = only-replicate no_file 32
 
-  pub fresh-desk : (i : ℕ) → desk_at (fresh_station craft edition channels blocks) i ≡ empty_desk
+  pub fresh-desk : (i : ℕ) → desk_at (fresh_station craft channels blocks) i ≡ empty_desk
   unfolding fresh_station
   fresh-desk = only-replicate empty_desk 8
 
-  pub fresh-none : (k : ℕ) → held (slot_at (fresh_station craft edition channels blocks) k) ≡ false
+  pub fresh-none : (k : ℕ) → held (slot_at (fresh_station craft channels blocks) k) ≡ false
   unfolding held
   fresh-none k = rw (fresh-slots k)
 
-  fresh-complete : (k : ℕ) → incomplete (slot_at (fresh_station craft edition channels blocks) k) ≡ false
+  fresh-complete : (k : ℕ) → incomplete (slot_at (fresh_station craft channels blocks) k) ≡ false
   unfolding held incomplete
   fresh-complete k = rw (fresh-slots k)
 
-  pub fresh-sound : good_names edition channels ≡ true → 1 ≤ blocks → blocks ≤ 4096 → Sound (fresh_station craft edition channels blocks)
+  pub fresh-sound : good_channels channels ≡ true → 1 ≤ blocks → blocks ≤ 4096 → Sound (fresh_station craft channels blocks)
   fresh-sound good one most =
       record {
         set_up = fresh-set_up good one most;
@@ -112,7 +109,7 @@ module _ (craft : ℕ) (edition : Edition) (channels : List ℕ) (blocks : ℕ) 
       }
 
   -- "empty desks (all octets zero)"
-  pub fresh-desks : DesksSound (fresh_station craft edition channels blocks) (replicate (8198 * length channels) 0)
+  pub fresh-desks : DesksSound (fresh_station craft channels blocks) (replicate (8198 * length channels) 0)
   fresh-desks =
       let n = 8198 * length channels in
       record {
@@ -125,16 +122,16 @@ module _ (craft : ℕ) (edition : Edition) (channels : List ℕ) (blocks : ℕ) 
             });
       }
 
-  fresh-needs : needs (fresh_station craft edition channels blocks).slots ≡ 0
+  fresh-needs : needs (fresh_station craft channels blocks).slots ≡ 0
   unfolding fresh_station needs held
   fresh-needs = refl
 
   -- all of the store is room
-  pub fresh-room : room (fresh_station craft edition channels blocks) ≡ blocks
+  pub fresh-room : room (fresh_station craft channels blocks) ≡ blocks
   unfolding fresh_station
   fresh-room = omega (arith, fresh-needs)
 
--- "a refused set-up's state is all zero, which isn't sound": it has no edition, and watches no channel
+-- "a refused set-up's state is all zero, which isn't sound": it watches no channel
 pub zero-unsound : is_sound all_zero_state ≡ false
-unfolding is_sound set_up_sound good_edition good_channels
+unfolding is_sound set_up_sound good_channels
 zero-unsound = refl

@@ -1,5 +1,5 @@
 -- Laws of the calls: of a fresh station, of a slot that is asked for, of what reasons in order decide, of what each call gives back, of the
--- channel of a frame's desk, of the file counter, the wild cases, and of two states that differ in the edition alone.
+-- channel of a frame's desk, of the file counter, and the wild cases.
 pub mod Fresh
 pub mod Asking
 pub mod Decided
@@ -9,4 +9,3 @@ pub mod Counters
 pub mod Frames
 pub mod Handed
 pub mod Wild
-pub mod Editions

@@ -17,11 +17,11 @@ use Rattle.judge.specs.Contract.{Watched}
 use Rattle.station.specs.SetUp.{channel_of}
 use Rattle.station.specs.Frame.{channel_at}
 
-module _ (s : Station) (f : List ℕ) (a : Accepted) (e : examined s.edition s.spacecraft (take s.channels s.watched) f ≡ Good a) where
+module _ (s : Station) (f : List ℕ) (a : Accepted) (e : examined s.spacecraft (take s.channels s.watched) f ≡ Good a) where
   stands : Stands (frame_of (derandomised f)).channel (channel_of 0) (take s.channels s.watched) a.desk
   stands =
       let ws = take s.channels s.watched in
-      desk-at (frame_of (derandomised f)).channel (channel_of 0) ws a.desk (good-header s.edition s.spacecraft ws f a e).desk
+      desk-at (frame_of (derandomised f)).channel (channel_of 0) ws a.desk (good-header s.spacecraft ws f a e).desk
 
   pub desk-low : a.desk < s.channels
   desk-low =

@@ -1,11 +1,9 @@
 -- "What the station says", call by call: the numbers in the order in which they are tried, each with the test that it applies. That each
 -- call gives what is decided so is proved (proofs/Calls.antt). Assumes nothing.
 use Rattle.std.specs.Prelude.{◌≡◌, not, ◌&&◌, List, [], ◌∷◌, ℕ, ◌*◌, leb, eqb, length, take}
-use Rattle.octets.specs.Choice.{if◌then◌else◌}
 use Rattle.octets.specs.Reasons.{Reason}
 use Rattle.octets.specs.Reasons.Reason.{◌when◌}
 use Rattle.frame.specs.declared.Accepted.{Accepted}
-use Rattle.frame.specs.declared.Edition.{Edition}
 use Rattle.frame.specs.declared.Frame.{Frame}
 use Rattle.frame.specs.declared.Watch.{Watch}
 use Rattle.frame.specs.declared.Watch.TheVariants.{Desk, NotWatched}
@@ -15,16 +13,16 @@ use Rattle.transport.specs.Length.{octets_of_bits}
 use Rattle.state.specs.declared.Station.{Station}
 use Rattle.state.specs.Slots.{slot_at, complete, named}
 use Rattle.state.specs.Sound.{Sized, Sound, DesksSound}
-use Rattle.state.specs.Decision.{among, is_sound, are_desks_sound}
+use Rattle.state.specs.Decision.{among, good_channels, is_sound, are_desks_sound}
 use Rattle.zone.specs.Walk.{Walked, walked}
-use Rattle.station.specs.SetUp.{desks_fit, whole_blocks, good_names}
+use Rattle.station.specs.SetUp.{desks_fit, whole_blocks}
 use Rattle.station.specs.Files.{is_held, store_fits, within}
 use Rattle.station.specs.Frame.{lent_right, channel_at}
 
 -- "at set-up 10 comes before 1"
-abbrev pub set_up_says : Edition → List ℕ → List ℕ → List ℕ → List Reason
-set_up_says edition channels desks store =
-    (10 when not (good_names edition channels)) ∷ (1 when not (desks_fit (length channels) desks && whole_blocks store)) ∷ []
+abbrev pub set_up_says : List ℕ → List ℕ → List ℕ → List Reason
+set_up_says channels desks store =
+    (10 when not (good_channels channels)) ∷ (1 when not (desks_fit (length channels) desks && whole_blocks store)) ∷ []
 
 -- every call that names a slot, before its own reasons
 abbrev pub slot_says : Station → ℕ → List Reason → List Reason
@@ -45,10 +43,6 @@ read_says s store k offset n =
 abbrev pub told_says : Station → List ℕ → ℕ → List Reason
 told_says s store k = (1 when not (store_fits s.blocks store)) ∷ slot_says s k ((12 when not (complete (slot_at s k))) ∷ [])
 
--- "9: pointer 884 to 2046": "Under 701 refusal 9 is as before", under 732 pointer 2046 has a meaning (02, 6/14)
-abbrev pub last_refused : Edition → ℕ
-last_refused edition = if eqb edition.0 732 then 2045 else 2046
-
 -- a frame whose header, derandomised, is h; the pointer has 11 bits
 abbrev pub frame_header_says : Station → Frame → List Reason
 frame_header_says s h =
@@ -56,7 +50,7 @@ frame_header_says s h =
     ∷ (6 when not (eqb h.spacecraft s.spacecraft))
     ∷ (7 when eqb h.channel.0 63)
     ∷ (8 when not (among h.channel.0 (named s)))
-    ∷ (9 when (leb 884 h.pointer && leb h.pointer (last_refused s.edition)))
+    ∷ (9 when (leb 884 h.pointer && leb h.pointer 2046))
     ∷ []
 
 abbrev pub frame_says : Station → List ℕ → List ℕ → List ℕ → List ℕ → List Reason
@@ -75,7 +69,7 @@ seat NotWatched = 0
 -- a frame for which none of these applies: its desk is that of its channel, "in the order named"
 abbrev pub accepted_as : Station → Frame → Accepted
 accepted_as s h =
-    record { desk = seat (desk_of (take s.channels s.watched) h.channel); counter = h.counter; pointer = pointer_meaning s.edition h.pointer }
+    record { desk = seat (desk_of (take s.channels s.watched) h.channel); counter = h.counter; pointer = pointer_meaning h.pointer }
 
 -- and what comes of it
 abbrev pub walked_as : Station → List ℕ → List ℕ → List ℕ → Walked

@@ -40,7 +40,7 @@ unfoldable pub admitted : Station → List ℕ → List ℕ → List ℕ → Lis
 admitted s desks store list f =
     if not (lent_right s desks store list) then Refused 1
     else if not (is_sound s && are_desks_sound s desks) then Refused 2
-    else examined s.edition s.spacecraft (take s.channels s.watched) f
+    else examined s.spacecraft (take s.channels s.watched) f
 
 -- "After 0 the events fill the list from its start and the rest of it stays."
 abbrev pub taken : Station → List ℕ → Walked → FrameOutcome

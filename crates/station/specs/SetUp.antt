@@ -2,8 +2,6 @@
 use Rattle.std.specs.Prelude.{Bool, not, ◌&&◌, List, ◌++◌, map, ℕ, ◌-◌, ◌*◌, ◌/◌, ◌%◌, leb, eqb, length, replicate}
 use Rattle.octets.specs.Choice.{if◌then◌else◌}
 use Rattle.frame.specs.declared.Channel.{Channel}
-use Rattle.frame.specs.declared.Edition.{Edition}
-use Rattle.frame.specs.Kinds.{good_edition}
 use Rattle.state.specs.declared.Station.{Station}
 use Rattle.state.specs.Slots.{no_file, empty_desk, all_zero_state}
 use Rattle.state.specs.Decision.{good_channels}
@@ -29,11 +27,10 @@ abbrev pub channel_of : ℕ → Channel
 channel_of n = record { 0 = n }
 
 -- "A fresh station has empty desks (all octets zero), no held file, all blocks free"
-unfoldable pub fresh_station : ℕ → Edition → List ℕ → ℕ → Station
-fresh_station craft edition channels blocks =
+unfoldable pub fresh_station : ℕ → List ℕ → ℕ → Station
+fresh_station craft channels blocks =
     record {
       spacecraft = craft;
-      edition = edition;
       channels = length channels;
       watched = map channel_of channels ++ replicate (8 - length channels) (channel_of 0);
       desks = replicate 8 empty_desk;
@@ -42,13 +39,9 @@ fresh_station craft edition channels blocks =
       slots = replicate 32 no_file;
     }
 
--- "Set-up names the edition, 701 or 732" (02, 6/14) and "1 to 8 distinct channels 0 to 62"
-abbrev pub good_names : Edition → List ℕ → Bool
-good_names edition channels = good_edition edition && good_channels channels
-
 -- "at set-up 10 comes before 1"; "Every number but 0 .. changes nothing; a refused set-up's state is all zero"
-unfoldable pub set_up : ℕ → Edition → List ℕ → List ℕ → List ℕ → SetUpOutcome
-set_up craft edition channels desks store =
-    if not (good_names edition channels) then set_up_gives 10 all_zero_state desks
+unfoldable pub set_up : ℕ → List ℕ → List ℕ → List ℕ → SetUpOutcome
+set_up craft channels desks store =
+    if not (good_channels channels) then set_up_gives 10 all_zero_state desks
     else if not (desks_fit (length channels) desks && whole_blocks store) then set_up_gives 1 all_zero_state desks
-    else set_up_gives 0 (fresh_station craft edition channels (length store / 8190)) (replicate (length desks) 0)
+    else set_up_gives 0 (fresh_station craft channels (length store / 8190)) (replicate (length desks) 0)

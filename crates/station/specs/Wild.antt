@@ -1,6 +1,5 @@
 -- States that no run reaches, and slots that no station has: what a read and letting a file go say of them. Assumes nothing.
 use Rattle.std.specs.Prelude.{◌≡◌, true, List, [], ◌∷◌, ◌++◌, map, ℕ, replicate}
-use Rattle.frame.specs.declared.Edition.{Edition}
 use Rattle.state.specs.declared.Desk.{Desk}
 use Rattle.state.specs.declared.Station.{Station}
 use Rattle.state.specs.Slots.{no_file, empty_desk, all_zero_state}
@@ -14,14 +13,13 @@ pub data Case : Type 0 where
 
 -- a fresh station with four channels and so many blocks
 abbrev set-up : ℕ → Station
-set-up blocks = fresh_station 1 (record { 0 = 701 }) (0 ∷ 1 ∷ 2 ∷ 3 ∷ []) blocks
+set-up blocks = fresh_station 1 (0 ∷ 1 ∷ 2 ∷ 3 ∷ []) blocks
 
 -- so many of the channels 0 to 7, desks and owners as given, seven blocks, no file held
-abbrev station-of : Edition → ℕ → List Desk → List ℕ → Station
-station-of edition channels desks owner =
+abbrev station : ℕ → List Desk → List ℕ → Station
+station channels desks owner =
     record {
       spacecraft = 1;
-      edition = edition;
       channels = channels;
       watched = map channel_of (0 ∷ 1 ∷ 2 ∷ 3 ∷ 4 ∷ 5 ∷ 6 ∷ 7 ∷ []);
       desks = desks;
@@ -29,9 +27,6 @@ station-of edition channels desks owner =
       owner = owner;
       slots = replicate 32 no_file;
     }
-
-abbrev station : ℕ → List Desk → List ℕ → Station
-station = station-of (record { 0 = 732 })
 
 -- a desk that holds so many octets
 abbrev holding : ℕ → Desk
@@ -51,10 +46,6 @@ cases =
     -- "1 to 4,096 blocks"
     ∷ (any-read-from set-up 4097 gives 1)
     ∷ (let_go 0 from set-up 4097 gives 2)
-    -- "the edition, 701 or 732" (02, 6/14)
-    ∷ (let_go 0 from station-of (record { 0 = 700 }) 8 no_desk no_owner gives 2)
-    ∷ (let_go 0 from station-of (record { 0 = 701 }) 8 no_desk no_owner gives 11)
-    ∷ (let_go 0 from station-of (record { 0 = 733 }) 8 no_desk no_owner gives 2)
     -- "1 to 8 distinct channels"
     ∷ (let_go 0 from station 0 no_desk no_owner gives 2)
     ∷ (let_go 0 from station 8 no_desk no_owner gives 11)

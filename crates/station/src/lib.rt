@@ -5,11 +5,11 @@
 ghost use Rattle.std.specs.Prelude.{◌≡◌, true, ◌++◌, map, ◌-◌, length, replicate};
 ghost use Rattle.state.specs.Slots.{all_zero_state};
 ghost use Rattle.state.specs.Decision.{good_channels};
-ghost use Rattle.station.specs.SetUp.{set_up_gives, whole_blocks, channel_of, fresh_station, good_names, set_up};
+ghost use Rattle.station.specs.SetUp.{set_up_gives, whole_blocks, channel_of, fresh_station, set_up};
 ghost use Rattle.station.specs.Files.{answered, store_fits};
 
 use facts::Facts;
-use frame::{Channel, CheckedChannel, Edition};
+use frame::{Channel, CheckedChannel};
 use state::{Desk, Station};
 use transport::Transport;
 
@@ -71,14 +71,13 @@ fn watch(channels: &[u8]) -> [Channel; Channel::MOST]
     watched
 }
 
-fn fresh_station(spacecraft: u8, edition: Edition, channels: &[u8], blocks: u16) -> Station
+fn fresh_station(spacecraft: u8, channels: &[u8], blocks: u16) -> Station
     requires { good_channels channels.now ≡ true }
-    ensures { result ≡ fresh_station spacecraft edition channels.now blocks }
+    ensures { result ≡ fresh_station spacecraft channels.now blocks }
 {
     let watched = watch(channels);
     let mut s = Station::zero();
     s.spacecraft = spacecraft;
-    s.edition = edition;
     s.channels = channels.len() as u8;
     s.watched = watched;
     s.blocks = blocks;
@@ -91,16 +90,6 @@ fn not_set_up(answer: u8) -> Answered
 {
     let station = Station::zero();
     say(answer, station)
-}
-
-// Whether what set-up names is good: the edition and the channels.
-fn good_names(edition: Edition, channels: &[u8]) -> bool
-    ensures { result ≡ good_names edition channels.now }
-{
-    if !edition.is_good() {
-        return false;
-    }
-    channels::good_channels(channels)
 }
 
 // Whether the store lent is 1 to 4,096 whole blocks.
@@ -117,17 +106,11 @@ fn whole_blocks(store: &[u8]) -> bool
     blocks <= Station::MOST_BLOCKS as usize
 }
 
-// Set-up: a spacecraft, the edition that its frames are read by, the channels to watch, the desks and the store. Answers 0, 1 or 10.
-pub fn set_up(
-    spacecraft: u8,
-    edition: Edition,
-    channels: &[u8],
-    desks: &mut [u8],
-    store: &[u8],
-) -> Answered
-    ensures { set_up_gives result.answer result.station desks.new ≡ set_up spacecraft edition channels.now desks.old store.now }
+// Set-up: a spacecraft, the channels to watch, the desks and the store. Answers 0, 1 or 10.
+pub fn set_up(spacecraft: u8, channels: &[u8], desks: &mut [u8], store: &[u8]) -> Answered
+    ensures { set_up_gives result.answer result.station desks.new ≡ set_up spacecraft channels.now desks.old store.now }
 {
-    if !good_names(edition, channels) {
+    if !channels::good_channels(channels) {
         return not_set_up(10);
     }
     if desks.len() != Desk::SIZE * channels.len() {
@@ -139,7 +122,7 @@ pub fn set_up(
     let n = desks.len();
     octets::blank(desks, 0, n);
     let blocks = store.len() / Transport::BLOCK;
-    let station = fresh_station(spacecraft, edition, channels, blocks as u16);
+    let station = fresh_station(spacecraft, channels, blocks as u16);
     say(0, station)
 }
 

@@ -19,7 +19,6 @@ use Rattle.octets.specs.Buffer.{all_zero}
 use Rattle.octets.proofs.Decide.{told-true, tells}
 use Rattle.octets.proofs.Zero.{blank-at, all-blank, all_zero-replicate}
 use Rattle.frame.specs.declared.Channel.{Channel}
-use Rattle.frame.specs.declared.Edition.{Edition}
 use Rattle.frame.specs.Header.{marker, starts_with, derandomised, frame_of}
 use Rattle.frame.specs.Refusals.{examined, examined_header}
 use Rattle.stream.specs.declared.Hunter.{Hunter}
@@ -229,16 +228,16 @@ starts : (f : List ℕ) → starts_with marker (righted f) ≡ true
 unfolding righted starts_with
 starts f = refl
 
-goes_on : (edition : Edition) (craft : ℕ) (watched : List Channel) (f : List ℕ) → length f ≡ 1024
-    → examined edition craft watched (righted f) ≡ examined_header edition craft watched (frame_of (derandomised (righted f)))
+goes_on : (craft : ℕ) (watched : List Channel) (f : List ℕ) → length f ≡ 1024
+    → examined craft watched (righted f) ≡ examined_header craft watched (frame_of (derandomised (righted f)))
 unfolding examined
-goes_on edition craft watched f e = rw (eq-eqb (length (righted f)) 1024 (righted-length f e), starts f)
+goes_on craft watched f e = rw (eq-eqb (length (righted f)) 1024 (righted-length f e), starts f)
 
-not-refused : (k : ℕ) {xs w : List ℕ} {ps : List Piece} (f : List ℕ) → Cuts k xs ps w → Memᴰ f (frames_in ps) → (edition : Edition) (craft : ℕ) (watched : List Channel)
-    → examined edition craft watched f ≡ examined_header edition craft watched (frame_of (derandomised f))
-not-refused k f (passes e c) m edition craft watched = not-refused k f c m edition craft watched
-not-refused k {xs} f (whole e c) m edition craft watched =
-    ⊎_elim (λ q. rw q (goes_on edition craft watched (take 1024 xs) (length-take-le 1024 xs (whole_is k xs e).0))) (λ n. not-refused k f c n edition craft watched) (Memᴰ.cases_cons m)
+not-refused : (k : ℕ) {xs w : List ℕ} {ps : List Piece} (f : List ℕ) → Cuts k xs ps w → Memᴰ f (frames_in ps) → (craft : ℕ) (watched : List Channel)
+    → examined craft watched f ≡ examined_header craft watched (frame_of (derandomised f))
+not-refused k f (passes e c) m craft watched = not-refused k f c m craft watched
+not-refused k {xs} f (whole e c) m craft watched =
+    ⊎_elim (λ q. rw q (goes_on craft watched (take 1024 xs) (length-take-le 1024 xs (whole_is k xs e).0))) (λ n. not-refused k f c n craft watched) (Memᴰ.cases_cons m)
 
 -- ---- frames in step
 
@@ -308,5 +307,5 @@ promises =
       nothing-lost = nothing-lost;
       in_step = in_step;
       as-they-stand = as-they-stand;
-      not-refused = λ k xs f m edition craft watched. not-refused k f (cuts k xs) m edition craft watched;
+      not-refused = λ k xs f m craft watched. not-refused k f (cuts k xs) m craft watched;
     }

@@ -4,7 +4,6 @@ use Rattle.std.specs.Prelude.{◌≡◌, true, false, ◌↔◌, ℕ, ◌+◌, �
 use mathlib.Core.List.{List, [], ◌∷◌, ◌++◌, map, flatten, Memᴰ}
 use Rattle.octets.specs.Number.{Octets, part}
 use Rattle.frame.specs.declared.Channel.{Channel}
-use Rattle.frame.specs.declared.Edition.{Edition}
 use Rattle.frame.specs.Header.{marker, derandomised, frame_of}
 use Rattle.frame.specs.Refusals.{examined, examined_header}
 use Rattle.stream.specs.declared.Hunter.{Hunter}
@@ -83,6 +82,6 @@ pub record Promises : Type 0 where
   pub in_step : (k : ℕ) (fs : List (List ℕ)) → InStep fs → (frames_of k (flatten fs) ≡ fs) × (waiting_of k (flatten fs) ≡ [])
   -- for k = 0 a frame is 1,024 octets of the stream as they stand
   pub as-they-stand : (xs : List ℕ) → Octets xs → {ps : List ℕ} {w : ℕ} → FramesAt 0 xs 0 ps w → frames_of 0 xs ≡ map (λ (p : ℕ). part p 1024 xs) ps
-  -- "marker put right": no station, of whatever edition, refuses a frame by 3 or 4; it goes on to the header
-  pub not-refused : (k : ℕ) (xs f : List ℕ) → Memᴰ f (frames_of k xs) → (edition : Edition) (craft : ℕ) (watched : List Channel)
-      → examined edition craft watched f ≡ examined_header edition craft watched (frame_of (derandomised f))
+  -- "marker put right": no station refuses a frame by 3 or 4; it goes on to the header
+  pub not-refused : (k : ℕ) (xs f : List ℕ) → Memᴰ f (frames_of k xs) → (craft : ℕ) (watched : List Channel)
+      → examined craft watched f ≡ examined_header craft watched (frame_of (derandomised f))

@@ -8,7 +8,6 @@ use Rattle.octets.specs.Number.{number_at}
 use Rattle.text.specs.Pieces.{ascii, spaced, in_hex}
 use Rattle.noise.specs.Noise.{noise_at}
 use Rattle.crc.specs.Crc.{crc_of}
-use Rattle.frame.specs.declared.Edition.{Edition}
 use Rattle.frame.specs.Header.{frame_of}
 use Rattle.frame.specs.Kinds.{counter_follows}
 use Rattle.packet.specs.declared.Count.{Count}
@@ -48,10 +47,6 @@ noise_text from number =
 unfoldable pub crc_text : List ℕ → List ℕ
 crc_text q = ascii "C " ++ last_digits 16 4 (crc_of q)
 
--- F: "what the pointer means under edition 701"
-abbrev pub asked_edition : Edition
-asked_edition = record { 0 = 701 }
-
 -- L: "`L bad` if L is 0; else `L need last`: the need N, and the octets of data in the file's last packet (of its only one if N is 1)"
 unfoldable pub length_text : ℕ → List ℕ
 length_text L = if good_length L then ascii "L" ++ spaced (need L) ++ spaced (rest L) else ascii "L bad"
@@ -81,7 +76,7 @@ unfoldable pub answer_to : ℕ → List ℕ → List ℕ
 answer_to letter q =
     if eqb letter (code "N") then of_octets 4 q (noise_text (number_at q 0 2) (number_at q 2 2))
     else if eqb letter (code "C") then crc_text q
-    else if eqb letter (code "F") then of_octets 8 q (frame_text asked_edition (frame_of q))
+    else if eqb letter (code "F") then of_octets 8 q (frame_text (frame_of q))
     else if eqb letter (code "P") then packet_text (look_of q)
     else if eqb letter (code "L") then of_octets 8 q (length_text (number_at q 0 8))
     else if eqb letter (code "S") then of_octets 17 q (shape_text q)

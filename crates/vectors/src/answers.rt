@@ -6,11 +6,11 @@ ghost use Rattle.text.specs.Pieces.{Written, in_hex};
 ghost use Rattle.frame.specs.Header.{frame_of};
 ghost use Rattle.packet.specs.Header.{look_of};
 ghost use Rattle.heads.specs.Heads.{frame_text, packet_text};
-ghost use Rattle.vectors.specs.Answers.{no_question, of_octets, sequence, noise_text, crc_text, asked_edition, length_text, fit_text, shape_text, counter_text, numbered_text, answer_to, answer_of};
+ghost use Rattle.vectors.specs.Answers.{no_question, of_octets, sequence, noise_text, crc_text, length_text, fit_text, shape_text, counter_text, numbered_text, answer_to, answer_of};
 
 use crate::digits;
 use crate::digits::Decoded;
-use frame::{CheckedCounter, Counter, Edition, Frame};
+use frame::{CheckedCounter, Counter, Frame};
 use packet::{CheckedCount, Count};
 
 // What is printed for a line that is no question.
@@ -64,13 +64,12 @@ fn crc_answer(q: &[u8], out: &mut [u8]) -> usize
 
 fn frame_answer(q: &[u8], out: &mut [u8]) -> usize
     requires { length out.old ≡ 2051 }
-    ensures { (result ≤ 2050) × Written out.old 0 (of_octets 8 q.now (frame_text asked_edition (frame_of q.now))) out.new result }
+    ensures { (result ≤ 2050) × Written out.old 0 (of_octets 8 q.now (frame_text (frame_of q.now))) out.new result }
 {
     if q.len() != 8 {
         return refusal(out);
     }
-    let edition = Edition(Edition::EARLIER);
-    heads::frame_answer(edition, Frame::read(q), out)
+    heads::frame_answer(Frame::read(q), out)
 }
 
 fn packet_answer(q: &[u8], out: &mut [u8]) -> usize

@@ -1,9 +1,8 @@
 -- Laws of the zone: the packets in it, where reading goes on in a frame, the sequel of a held packet, the desk set in order, the walk turn by turn,
--- all that a frame keeps, and that what its pointer means is all that hangs on the edition.
+-- and all that a frame keeps.
 pub mod Split
 pub mod Readings
 pub mod Sequels
 pub mod Desks
 pub mod Walks
 pub mod Turns
-pub mod Editions

@@ -7,18 +7,17 @@ use Prim.Native.Nat.{ℕ, ◌+◌, ◌-◌, ◌%◌, ◌≤◌, ◌<◌}
 use native.Mathlib.Omega.{arith}
 use lib.ListN.{length, drop, length-drop, drop_of_length-le}
 use Rattle.octets.specs.Choice.{Decides}
-use Rattle.octets.specs.Choice.Decides.{holds, fails}
+use Rattle.octets.specs.Choice.Decides.{fails}
 use Rattle.octets.proofs.Decide.{decides-same, decides-by, decides-self, decides_eqb, decides-leb, decides-then, decides_not}
 use Rattle.frame.specs.declared.Accepted.{Accepted}
 use Rattle.frame.specs.declared.Channel.{Channel}
 use Rattle.frame.specs.declared.Counter.{Counter}
-use Rattle.frame.specs.declared.Edition.{Edition}
 use Rattle.frame.specs.declared.Examined.TheVariants as answer
 use Rattle.frame.specs.declared.Pointer.{Pointer}
-use Rattle.frame.specs.declared.Pointer.TheVariants.{Offset, NoStart, Idle, Refused}
+use Rattle.frame.specs.declared.Pointer.TheVariants.{Offset, NoStart, Refused}
 use Rattle.frame.specs.Header.{derandomised, frame_of, pointer_meaning}
 use Rattle.frame.specs.Refusals.{examined}
-use Rattle.frame.proofs.Pointers.{below-offset, Means, means}
+use Rattle.frame.proofs.Pointers.{below-offset, no_start, Means, means}
 use Rattle.frame.proofs.Answers.{good-header}
 use Rattle.frame.proofs.Counting.{follows_next, next-follows}
 use Rattle.packet.specs.declared.Packet.{Packet}
@@ -29,7 +28,7 @@ use Rattle.state.specs.declared.Desk.{Desk}
 use Rattle.state.specs.declared.Station.{Station}
 use Rattle.state.specs.Slots.{desk_at}
 use Rattle.events.specs.Event.{Event, bare}
-use Rattle.zone.specs.Zone.{Reading, from_pointer, agrees, is_idle, carried_by, reading}
+use Rattle.zone.specs.Zone.{Reading, from_pointer, agrees, carried_by, reading}
 use Rattle.zone.specs.Walk.{gap, held_at, reading_of}
 use Rattle.zone.specs.Contract.{start_at}
 
@@ -38,70 +37,49 @@ pub from_start : (q : Pointer) (zone : List ℕ) → length zone ≡ 884 → fro
 unfolding from_pointer start_at
 from_start (Offset p) zone l = refl
 from_start NoStart zone l = sym (drop_of_length-le zone {i = 884} (omega arith))
-from_start Idle zone l = sym (drop_of_length-le zone {i = 884} (omega arith))
 from_start Refused zone l = sym (drop_of_length-le zone {i = 884} (omega arith))
 
 pub from-few : (q : Pointer) (zone : List ℕ) → length (from_pointer q zone) ≤ length zone
 unfolding from_pointer
 from-few (Offset p) zone = omega (arith, length-drop p zone)
 from-few NoStart zone = omega arith
-from-few Idle zone = omega arith
 from-few Refused zone = omega arith
 
-module _ (edition : Edition) (p : ℕ) where
-  -- and a zone has nothing behind place 884
-  pub from_place : (zone : List ℕ) → length zone ≡ 884 → from_pointer (pointer_meaning edition p) zone ≡ drop p zone
-  unfolding from_pointer
-  from_place zone l = by (pointer_meaning edition p) (means edition p)
-    where
-      by : (m : Pointer) → Means edition p m → from_pointer m zone ≡ drop p zone
-      by (Offset q) (same, low) = ap (λ (n : ℕ). drop n zone) same
-      by NoStart e = sym (drop_of_length-le zone {i = p} (omega arith))
-      by Idle (e, later) = sym (drop_of_length-le zone {i = p} (omega arith))
-      by Refused (from, other, later) = sym (drop_of_length-le zone {i = p} (omega arith))
+-- and a zone has nothing behind place 2047
+pub from_place : (p : ℕ) (zone : List ℕ) → length zone ≡ 884 → (p < 884) ⊎ (p ≡ 2047) → from_pointer (pointer_meaning p) zone ≡ drop p zone
+unfolding from_pointer
+from_place p zone l (inl h) = ap (λ (q : Pointer). from_pointer q zone) (below-offset p h)
+from_place p zone l (inr e) =
+    ap (λ (q : Pointer). from_pointer q zone) (no_start p e) ∙ sym (drop_of_length-le zone {i = p} (omega arith))
 
-  -- what a pointer means is a place of the zone, or its end
-  pub meaning-within : start_at (pointer_meaning edition p) ≤ 884
-  unfolding start_at
-  meaning-within = by (pointer_meaning edition p) (means edition p)
-    where
-      by : (m : Pointer) → Means edition p m → start_at m ≤ 884
-      by (Offset q) (same, low) = omega arith
-      by NoStart e = omega arith
-      by Idle e = omega arith
-      by Refused e = omega arith
-
-  -- a pointer that is not refused says that the zone is idle only exactly if it is 2046
-  pub idle-exactly : (pointer_meaning edition p ≡ Refused → ⊥) → Decides (p ≡ 2046) (is_idle (pointer_meaning edition p))
-  unfolding is_idle
-  idle-exactly = by (pointer_meaning edition p) (means edition p)
-    where
-      by : (m : Pointer) → Means edition p m → (m ≡ Refused → ⊥) → Decides (p ≡ 2046) (is_idle m)
-      by (Offset q) (same, low) n = fails (λ e. omega arith)
-      by NoStart e n = fails (λ f. omega arith)
-      by Idle (e, later) n = holds e
-      by Refused e n = absurd (n refl)
+-- what a pointer means is a place of the zone, or its end
+pub meaning-within : (p : ℕ) → start_at (pointer_meaning p) ≤ 884
+unfolding start_at
+meaning-within p = by (pointer_meaning p) (means p)
+  where
+    by : (m : Pointer) → Means p m → start_at m ≤ 884
+    by (Offset q) (same, low) = omega arith
+    by NoStart e = omega arith
+    by Refused e = omega arith
 
 -- an accepted frame is read from within its zone
-pub start-within : (edition : Edition) (craft : ℕ) (watched : List Channel) (f : List ℕ) (a : Accepted)
-    → examined edition craft watched f ≡ answer.Good a → start_at a.pointer ≤ 884
-start-within edition craft watched f a e =
-    rw (good-header edition craft watched f a e).pointer (meaning-within edition (frame_of (derandomised f)).pointer)
+pub start-within : (craft : ℕ) (watched : List Channel) (f : List ℕ) (a : Accepted) → examined craft watched f ≡ answer.Good a
+    → start_at a.pointer ≤ 884
+start-within craft watched f a e = rw (good-header craft watched f a e).pointer (meaning-within (frame_of (derandomised f)).pointer)
 
 -- "the pointer must be r if r is below 884, and 2047 otherwise", in words
 abbrev pub Agrees : ℕ → ℕ → Type 0
 Agrees r p = ((r < 884) × (p ≡ r)) ⊎ ((884 ≤ r) × (p ≡ 2047))
 
-pub agrees-exactly : (edition : Edition) (r p : ℕ) → Decides (Agrees r p) (agrees r (pointer_meaning edition p))
+pub agrees-exactly : (r p : ℕ) → Decides (Agrees r p) (agrees r (pointer_meaning p))
 unfolding agrees
-agrees-exactly edition r p = by (pointer_meaning edition p) (means edition p)
+agrees-exactly r p = by (pointer_meaning p) (means p)
   where
-    by : (m : Pointer) → Means edition p m → Decides (Agrees r p) (agrees r m)
+    by : (m : Pointer) → Means p m → Decides (Agrees r p) (agrees r m)
     by (Offset q) (same, low) =
         decides-same (λ e. inl (omega arith, omega arith)) (⊎_elim (λ a. omega (arith, a.1)) (λ a. omega (arith, a.1))) (decides_eqb q r)
     by NoStart e = decides-same (λ l. inr (l, e)) (⊎_elim (λ a. omega (arith, a.0, a.1)) (λ a. a.0)) (decides-leb 884 r)
-    by Idle (e, later) = fails (⊎_elim (λ a. omega (arith, a.0, a.1)) (λ a. omega (arith, a.1)))
-    by Refused (from, other, later) = fails (⊎_elim (λ a. omega (arith, a.0, a.1)) (λ a. other a.1))
+    by Refused (from, other) = fails (⊎_elim (λ a. omega (arith, a.0, a.1)) (λ a. other a.1))
 
 -- reading at the pointer, after these events
 abbrev pub at_pointer : List Event → List ℕ → Pointer → Reading
@@ -116,69 +94,47 @@ unfolding reading
 reading-none zone p = refl
 
 -- pointer 0 is the zone's start
-pub reading-first : (edition : Edition) (zone : List ℕ) → reading [] zone (pointer_meaning edition 0) ≡ onward [] zone
+pub reading-first : (zone : List ℕ) → reading [] zone (pointer_meaning 0) ≡ onward [] zone
 unfolding from_pointer
-reading-first edition zone =
-    reading-none zone (pointer_meaning edition 0) ∙ ap (at_pointer [] zone) (below-offset edition 0 (omega arith))
+reading-first zone = reading-none zone (pointer_meaning 0) ∙ ap (at_pointer [] zone) (below-offset 0 (omega arith))
 
--- what agrees with a packet is not idle
-agrees-busy : (r : ℕ) (p : Pointer) → agrees r p ≡ true → is_idle p ≡ false
-unfolding agrees is_idle
-agrees-busy r (Offset q) e = refl
-agrees-busy r NoStart e = refl
-agrees-busy r Idle e = sym e
-agrees-busy r Refused e = refl
-
-reading-held : (held zone : List ℕ) (p : Pointer) → 0 < length held → is_idle p ≡ false → {l : Look} → look_of (held ++ zone) ≡ l
+reading-held : (held zone : List ℕ) (p : Pointer) → 0 < length held → {l : Look} → look_of (held ++ zone) ≡ l
     → reading held zone p ≡ carried_by l held zone p
 unfolding reading
-reading-held [] zone p some busy e = absurd (omega arith)
-reading-held (x ∷ held) zone p some busy e = rw (busy, e)
-
--- "held octets are dropped with event 2"
-pub reading-idle : (held zone : List ℕ) (p : Pointer) → 0 < length held → is_idle p ≡ true → reading held zone p ≡ at_pointer (bare 2 ∷ []) zone p
-unfolding reading
-reading-idle [] zone p some idle = absurd (omega arith)
-reading-idle (x ∷ held) zone p some idle = rw idle
+reading-held [] zone p some e = absurd (omega arith)
+reading-held (x ∷ held) zone p some e = ap (λ (l : Look). carried_by l (x ∷ held) zone p) e
 
 module _ (held zone : List ℕ) (p : Pointer) (some : 0 < length held) where
-  module _ (busy : is_idle p ≡ false) where
-    pub reading-short : look_of (held ++ zone) ≡ Short → reading held zone p ≡ onward held zone
-    unfolding carried_by
-    reading-short e = reading-held held zone p some busy e
+  pub reading-short : look_of (held ++ zone) ≡ Short → reading held zone p ≡ onward held zone
+  unfolding carried_by
+  reading-short e = reading-held held zone p some e
 
-    pub reading-bad : look_of (held ++ zone) ≡ Bad → reading held zone p ≡ at_pointer (bare 3 ∷ []) zone p
-    unfolding carried_by
-    reading-bad e = reading-held held zone p some busy e
+  pub reading-bad : look_of (held ++ zone) ≡ Bad → reading held zone p ≡ at_pointer (bare 3 ∷ []) zone p
+  unfolding carried_by
+  reading-bad e = reading-held held zone p some e
 
   module _ {h : Packet} (e : look_of (held ++ zone) ≡ Good h) where
     pub reading-on : agrees (size_of h - length held) p ≡ true → reading held zone p ≡ onward held zone
     unfolding carried_by
-    reading-on f = reading-held held zone p some (agrees-busy _ p f) e ∙ rw f
+    reading-on f = reading-held held zone p some e ∙ rw f
 
     pub reading-dropped : agrees (size_of h - length held) p ≡ false → reading held zone p ≡ at_pointer (bare 2 ∷ []) zone p
     unfolding carried_by
-    reading-dropped f = by (is_idle p) refl
-      where
-        by : (b : Bool) → is_idle p ≡ b → reading held zone p ≡ at_pointer (bare 2 ∷ []) zone p
-        by true idle = reading-idle held zone p some idle
-        by false busy = reading-held held zone p some busy e ∙ rw f
+    reading-dropped f = reading-held held zone p some e ∙ rw f
 
 -- every case, with what is known in it
 pub data Reads (held zone : List ℕ) (p : Pointer) : Reading → Type 0 where
   afresh : held ≡ [] → Reads held zone p (at_pointer [] zone p)
-  passed_over : is_idle p ≡ true → Reads held zone p (at_pointer (bare 2 ∷ []) zone p)
   too_few : look_of (held ++ zone) ≡ Short → Reads held zone p (onward held zone)
   bad-header : look_of (held ++ zone) ≡ Bad → Reads held zone p (at_pointer (bare 3 ∷ []) zone p)
   goes_on : {h : Packet} → look_of (held ++ zone) ≡ Good h → agrees (size_of h - length held) p ≡ true → Reads held zone p (onward held zone)
   points-off : {h : Packet} → look_of (held ++ zone) ≡ Good h → agrees (size_of h - length held) p ≡ false
       → Reads held zone p (at_pointer (bare 2 ∷ []) zone p)
 
-reads_held : (held zone : List ℕ) (p : Pointer) → 0 < length held → is_idle p ≡ false → (l : Look) → look_of (held ++ zone) ≡ l
-    → Reads held zone p (reading held zone p)
-reads_held held zone p some busy Short e = rw (reading-short held zone p some busy e) (too_few e)
-reads_held held zone p some busy Bad e = rw (reading-bad held zone p some busy e) (bad-header e)
-reads_held held zone p some busy (Good h) e = by (agrees (size_of h - length held) p) refl
+reads_held : (held zone : List ℕ) (p : Pointer) → 0 < length held → (l : Look) → look_of (held ++ zone) ≡ l → Reads held zone p (reading held zone p)
+reads_held held zone p some Short e = rw (reading-short held zone p some e) (too_few e)
+reads_held held zone p some Bad e = rw (reading-bad held zone p some e) (bad-header e)
+reads_held held zone p some (Good h) e = by (agrees (size_of h - length held) p) refl
   where
     by : (b : Bool) → agrees (size_of h - length held) p ≡ b → Reads held zone p (reading held zone p)
     by true f = rw (reading-on held zone p some e f) (goes_on e f)
@@ -186,11 +142,7 @@ reads_held held zone p some busy (Good h) e = by (agrees (size_of h - length hel
 
 pub reads_as : (held zone : List ℕ) (p : Pointer) → Reads held zone p (reading held zone p)
 reads_as [] zone p = rw (reading-none zone p) (afresh refl)
-reads_as (x ∷ held) zone p = by (is_idle p) refl
-  where
-    by : (b : Bool) → is_idle p ≡ b → Reads (x ∷ held) zone p (reading (x ∷ held) zone p)
-    by true idle = rw (reading-idle (x ∷ held) zone p (omega arith) idle) (passed_over idle)
-    by false busy = reads_held (x ∷ held) zone p (omega arith) busy (look_of (x ∷ held ++ zone)) refl
+reads_as (x ∷ held) zone p = reads_held (x ∷ held) zone p (omega arith) (look_of (x ∷ held ++ zone)) refl
 
 -- "if a frame was seen before and the counter is not the last plus 1 modulo 2^24"
 pub gap-exactly : (d : Desk) (c : Counter) → Decides ((d.seen ≡ true) × (c.0 ≡ (d.counter.0 + 1) % 0x1000000 → ⊥)) (gap d c)

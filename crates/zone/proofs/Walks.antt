@@ -36,7 +36,7 @@ use Rattle.zone.specs.Contract.{Lent, TellsWalked}
 use Rattle.zone.proofs.Split.{Cuts, split-wholes, split-left, split-cuts, unfinished-few, unfinished-held, held-unfinished, carried-lacks, carried-whole, carried-part}
 use Rattle.zone.proofs.Split.Cuts.{at-end, at-bad}
 use Rattle.zone.proofs.Readings.{from-few, reading-gap, reading-seamless, Reads, reads_as}
-use Rattle.zone.proofs.Readings.Reads.{afresh, passed_over, too_few, bad-header, goes_on, points-off}
+use Rattle.zone.proofs.Readings.Reads.{afresh, too_few, bad-header, goes_on, points-off}
 
 -- events before events
 pub after-after : (es fs : List Event) (j : Judged) → after es (after fs j) ≡ after (es ++ fs) j
@@ -119,7 +119,7 @@ module _ (s : Station) (i : ℕ) (d : Desk) where
       record {
         set_up =
             let u = S.set_up in
-            record { edition = u.edition; some = u.some; few = u.few; low = u.low; distinct = u.distinct; store = u.store; least = u.least };
+            record { some = u.some; few = u.few; low = u.low; distinct = u.distinct; store = u.store; least = u.least };
         blocks = S.blocks;
         files =
             λ k m e.
@@ -366,7 +366,6 @@ module _ (c : Channel) (s : Station) (z : Sized s) (desks store : List ℕ) (a :
     reads-few : {r : Reading} (held : List ℕ) → Unfinished held → Reads held zone a.pointer r
         → length (walked_from c s desks store a r.events r.octets).events ≤ 151
     reads-few held u (afresh e) = pointer-few [] (omega arith)
-    reads-few held u (passed_over e) = pointer-few (bare 2 ∷ []) (omega arith)
     reads-few held u (too_few e) = absurd (omega (arith, look-tells (held ++ zone) e, length-append held zone))
     reads-few held u (bad-header e) = pointer-few (bare 3 ∷ []) (omega arith)
     reads-few held u (goes_on e f) = carried-few held u e
@@ -398,7 +397,6 @@ module _ {s : Station} (S : Sound s) (desks : List ℕ) (l : length desks ≡ 81
 -- everything that a frame keeps
 pub record Kept (s : Station) (desks store : List ℕ) (i : ℕ) (w : Walked) : Type 0 where
   pub spacecraft : w.station.spacecraft ≡ s.spacecraft
-  pub edition : w.station.edition ≡ s.edition
   pub channels : w.station.channels ≡ s.channels
   pub watched : w.station.watched ≡ s.watched
   pub blocks : w.station.blocks ≡ s.blocks
@@ -420,7 +418,6 @@ walked_keeps c s a zone desks store list z l h low =
     let t = all-stays c s store (split xs).packets in
     record {
       spacecraft = t.spacecraft;
-      edition = t.edition;
       channels = t.channels;
       watched = t.watched;
       blocks = t.blocks;

@@ -5,7 +5,7 @@ use Rattle.octets.specs.Buffer.{put}
 use Rattle.frame.specs.declared.Channel.{Channel}
 use Rattle.frame.specs.declared.Accepted.{Accepted}
 use Rattle.frame.specs.declared.Pointer.{Pointer}
-use Rattle.frame.specs.declared.Pointer.TheVariants.{Offset, NoStart, Idle, Refused}
+use Rattle.frame.specs.declared.Pointer.TheVariants.{Offset, NoStart, Refused}
 use Rattle.packet.specs.declared.Look.{Look}
 use Rattle.packet.specs.declared.Look.TheVariants.{Short, Bad, Good}
 use Rattle.packet.specs.Header.{look_of, size_of}
@@ -20,14 +20,13 @@ use Rattle.zone.specs.declared.Sequel.{Sequel}
 use Rattle.zone.specs.declared.Sequel.TheVariants.{Dropped, CarriedOn}
 use Rattle.zone.specs.declared.Next.{Next}
 use Rattle.zone.specs.declared.Next.TheVariants.{Take, End}
-use Rattle.zone.specs.Zone.{split, Reading, agrees, is_idle, reading}
+use Rattle.zone.specs.Zone.{split, Reading, agrees, reading}
 use Rattle.zone.specs.Walk.{judged_all, held_at, desk_after, Walked, walked_from}
 
 -- place in the zone at which reading begins: 884, its end, for nowhere
 unfoldable pub start_at : Pointer → ℕ
 start_at (Offset p) = p
 start_at NoStart = 884
-start_at Idle = 884
 start_at Refused = 884
 
 -- a sound station with its desks and its store, the zone of a frame for one of its desks, to be read from within, and an event list of the
@@ -81,14 +80,10 @@ abbrev pub leaves : List Slot → Accepted → ℕ → ℕ → Done
 leaves slots a held n = record { slots = slots; events = n; desk = desk_after a held }
 
 -- what becomes of a held packet, by what stands at its start: dropped with an event, or carried on with its size
-unfoldable pub sequel_by : Look → ℕ → Pointer → Sequel
-sequel_by Short held p = Dropped 3
-sequel_by Bad held p = Dropped 3
-sequel_by (Good h) held p = if agrees (size_of h - held) p then CarriedOn (size_of h) else Dropped 2
-
--- an idle zone carries nothing on
 unfoldable pub sequel_of : Look → ℕ → Pointer → Sequel
-sequel_of look held p = if is_idle p then Dropped 2 else sequel_by look held p
+sequel_of Short held p = Dropped 3
+sequel_of Bad held p = Dropped 3
+sequel_of (Good h) held p = if agrees (size_of h - held) p then CarriedOn (size_of h) else Dropped 2
 
 -- what came out is what was to come of it: the state t, and m events, behind the n that the list had
 pub record TellsWalked (w : Walked) (n : ℕ) (list₀ : List ℕ) (t : Station) (m : ℕ) (desks store list : List ℕ) : Type 0 where

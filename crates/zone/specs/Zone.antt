@@ -6,7 +6,7 @@ use Rattle.packet.specs.declared.Look.{Look}
 use Rattle.packet.specs.declared.Look.TheVariants.{Short, Bad, Good}
 use Rattle.packet.specs.Header.{look_of, size_of}
 use Rattle.frame.specs.declared.Pointer.{Pointer}
-use Rattle.frame.specs.declared.Pointer.TheVariants.{Offset, NoStart, Idle, Refused}
+use Rattle.frame.specs.declared.Pointer.TheVariants.{Offset, NoStart, Refused}
 use Rattle.events.specs.Event.{Event, bare}
 use Rattle.judge.specs.Contract.{Whole}
 
@@ -55,11 +55,10 @@ pub record Reading : Type 0 where
   pub events : List Event
   pub octets : List ℕ
 
--- "reading begins at the pointer, or nowhere if it is 2047"; in an idle zone "all zone octets are passed over" (02, 6/14)
+-- "reading begins at the pointer, or nowhere if it is 2047"
 unfoldable pub from_pointer : Pointer → List ℕ → List ℕ
 from_pointer (Offset p) zone = drop p zone
 from_pointer NoStart zone = []
-from_pointer Idle zone = []
 from_pointer Refused zone = []
 
 -- "r is what the packet lacked at the zone's start: the pointer must be r if r is below 884, and 2047 otherwise". An offset is below 884, and
@@ -67,7 +66,6 @@ from_pointer Refused zone = []
 unfoldable pub agrees : ℕ → Pointer → Bool
 agrees r (Offset p) = eqb p r
 agrees r NoStart = leb 884 r
-agrees r Idle = false
 agrees r Refused = false
 
 -- the held octets and the zone are one stretch of octets, read from the held packet's header on
@@ -79,19 +77,8 @@ carried_by (Good h) held zone p =
     then record { events = []; octets = held ++ zone }
     else record { events = bare 2 ∷ []; octets = from_pointer p zone }
 
--- "the zone is idle only" (02, 6/14)
-unfoldable pub is_idle : Pointer → Bool
-is_idle (Offset p) = false
-is_idle NoStart = false
-is_idle Idle = true
-is_idle Refused = false
-
 -- "If octets are held, they are carried on into the zone. When six are there, a bad header gives event 3 and drops the packet. Else .. if
--- not, event 2 and the packet is dropped. After a drop, or with nothing held, reading begins at the pointer". But into an idle zone nothing is
--- carried on: "held octets are dropped with event 2", whatever they are (02, 6/14)
+-- not, event 2 and the packet is dropped. After a drop, or with nothing held, reading begins at the pointer"
 unfoldable pub reading : List ℕ → List ℕ → Pointer → Reading
 reading [] zone p = record { events = []; octets = from_pointer p zone }
-reading (x ∷ held) zone p =
-    if is_idle p
-    then record { events = bare 2 ∷ []; octets = from_pointer p zone }
-    else carried_by (look_of (x ∷ held ++ zone)) (x ∷ held) zone p
+reading (x ∷ held) zone p = carried_by (look_of (x ∷ held ++ zone)) (x ∷ held) zone p

@@ -42,9 +42,6 @@ fn agrees(lacked: usize, pointer: Pointer) -> bool
         Pointer::NoStart => {
             return Frame::ZONE <= lacked;
         }
-        Pointer::Idle => {
-            return false;
-        }
         Pointer::Refused => {
             return false;
         }
@@ -121,9 +118,6 @@ pub fn sequel_of(packet: &[u8], held: usize, pointer: Pointer) -> Sequel
     requires { (h : Packet) → look_of packet.now ≡ Look.Good h → held ≤ size_of h }
     ensures { result ≡ sequel_of (look_of packet.now) held pointer }
 {
-    if let Pointer::Idle = pointer {
-        return Sequel::Dropped(2);
-    }
     let look = packet::look_at(packet);
     let Look::Good(h) = look else {
         return Sequel::Dropped(3);

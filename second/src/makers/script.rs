@@ -1,7 +1,7 @@
 //! Makes trial scripts.
 
 use crate::makers::make;
-use crate::model::frame::{Channel, Edition, COUNTER_MODULUS, ZONE_SIZE};
+use crate::model::frame::{Channel, COUNTER_MODULUS, ZONE_SIZE};
 use crate::model::station::{DESK_SIZE, LEAST_EVENT_NUMBERS};
 use crate::model::transport::BLOCK_SIZE;
 
@@ -21,7 +21,6 @@ pub enum Field {
     SlotLength = 10,
     SlotCount = 11,
     SlotAccepted = 12,
-    Edition = 13,
 }
 
 /// A file that is poked into the state.
@@ -63,30 +62,19 @@ impl Script {
         self.command(b'M', 0, 0, desks as u32, store as u64);
     }
 
-    /// A set-up of edition 701.
     pub fn set_up(&mut self, spacecraft: u8, channels: &[u8]) {
-        self.set_up_under(u32::from(Edition::B701.0), spacecraft, channels);
-    }
-
-    /// A set-up of any edition, the number as the script has it: it counts modulo 65,536.
-    pub fn set_up_under(&mut self, edition: u32, spacecraft: u8, channels: &[u8]) {
-        self.command(b'S', spacecraft, channels.len() as u16, edition, 0);
+        self.command(b'S', spacecraft, channels.len() as u16, 0, 0);
         self.octets.extend(channels);
         self.next_counter = [0; 64];
     }
 
-    /// Lends what the channels and blocks ask for, and sets up spacecraft 1 and edition 701.
+    /// Lends what the channels and blocks ask for, and sets up spacecraft 1.
     pub fn fresh(&mut self, channels: &[u8], blocks: usize) {
-        self.fresh_under(Edition::B701, channels, blocks);
-    }
-
-    /// The same of an edition.
-    pub fn fresh_under(&mut self, edition: Edition, channels: &[u8], blocks: usize) {
         self.lend(DESK_SIZE * channels.len(), BLOCK_SIZE * blocks);
-        self.set_up_under(u32::from(edition.0), 1, channels);
+        self.set_up(1, channels);
     }
 
-    /// The program's station: "spacecraft 1, channels 0 to 3, seven blocks", edition 701.
+    /// The program's station: "spacecraft 1, channels 0 to 3, seven blocks".
     pub fn station(&mut self) {
         self.fresh(&[0, 1, 2, 3], 7);
     }

@@ -115,11 +115,6 @@ impl Sender {
         (pointer, zone)
     }
 
-    /// The octets that come next, as far as they are made.
-    pub fn coming(&self) -> &[u8] {
-        &self.pending
-    }
-
     /// Whether the next zone begins with a packet.
     pub fn is_between_packets(&self) -> bool {
         self.pending.is_empty() || self.starts.first() == Some(&0)

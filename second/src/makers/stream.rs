@@ -111,29 +111,6 @@ fn sent(chance: &mut Chance, fate: Fate, spacecraft: u8, sender: &mut Sender) ->
     frame
 }
 
-/// A frame of the pointer at which the editions part, or of one beside it, mostly without a gap. Its
-/// zone is what comes next, or by chance now and then. Every second time what comes next is lost with
-/// it; else it comes behind, so that the next frame has the pointer which a packet dropped here had
-/// wanted. A counter that is not counted on is right for the next frame where this one is refused.
-pub fn idle_frame(chance: &mut Chance, spacecraft: u8, sender: &mut Sender) -> Vec<u8> {
-    let pointer = chance.weighted(&[(8, frame::IDLE), (2, 2045), (1, 884)]);
-    let mut zone = match chance.one_in(2) {
-        true => sender.zone(chance).1,
-        false => sender.coming().to_vec(),
-    };
-    if chance.one_in(6) {
-        zone = chance.octets(40);
-    }
-    if chance.one_in(8) {
-        sender.count();
-    }
-    let counter = match chance.one_in(3) {
-        true => sender.counter,
-        false => sender.count(),
-    };
-    make::frame(spacecraft, Channel(sender.channel), counter, pointer, &zone)
-}
-
 /// Prints so many frames; some octets may be left over behind them.
 pub fn run(seed: u64, frames: u64, out: &mut dyn Write) {
     let mut chance = Chance::new(seed);

@@ -13,8 +13,6 @@ pub const VERSION: u8 = 1;
 pub const COUNTER_MODULUS: u32 = 1 << 24;
 /// The pointer that says that no packet header starts in the zone.
 pub const NO_START: u16 = 2047;
-/// The pointer to which the later books give a meaning: "the zone is idle only" (02, 6/14).
-pub const IDLE: u16 = 2046;
 
 /// A channel number: "different kinds of number and must not be interchangeable" (01).
 #[derive(Clone, Copy, Debug, Default, PartialEq, Eq)]
@@ -25,23 +23,6 @@ impl Channel {
     pub const HIGHEST: u8 = 62;
     /// "channel 63 (fill)"
     pub const FILL: Channel = Channel(63);
-}
-
-/// The edition of the books that a satellite goes by (02, 6/14). A state that is handed in may have
-/// any number of 16 bits here.
-#[derive(Clone, Copy, Debug, Default, PartialEq, Eq)]
-pub struct Edition(pub u16);
-
-impl Edition {
-    /// CCSDS 701.0-B
-    pub const B701: Edition = Edition(701);
-    /// CCSDS 732.0-B
-    pub const B732: Edition = Edition(732);
-
-    /// "Set-up names the edition, 701 or 732."
-    pub fn is_known(self) -> bool {
-        self == Edition::B701 || self == Edition::B732
-    }
 }
 
 /// What stands between the marker and the zone.
@@ -80,16 +61,12 @@ pub enum Start {
     At(usize),
     Refused,
     Nowhere,
-    Idle,
 }
 
-/// Refusal 9 is "pointer 884 to 2046"; reading begins "nowhere if it is 2047". Under 732 "2046 is
-/// read as no start, all zone octets are passed over" (02, 6/14). Nothing else of a frame goes by
-/// the edition: "Frames with any other pointer are answered alike."
-pub fn start(edition: Edition, pointer: u16) -> Start {
+/// Refusal 9 is "pointer 884 to 2046"; reading begins "nowhere if it is 2047".
+pub fn start(pointer: u16) -> Start {
     match pointer {
         NO_START => Start::Nowhere,
-        IDLE if edition == Edition::B732 => Start::Idle,
         _ if usize::from(pointer) < ZONE_SIZE => Start::At(usize::from(pointer)),
         _ => Start::Refused,
     }

@@ -2,14 +2,12 @@
 
 use std::io::{Read, Write};
 
-use crate::model::frame::{self, Edition};
+use crate::model::frame;
 use crate::model::station::{self, State, DESK_SIZE, LEAST_EVENT_NUMBERS};
 use crate::model::transport::BLOCK_SIZE;
 
 /// "The program uses spacecraft 1, channels 0 to 3, seven blocks."
 const SPACECRAFT: u8 = 1;
-/// 01 has no other edition, so that the program prints what it printed before 02, 6/14.
-const EDITION: Edition = Edition::B701;
 const CHANNELS: [u8; 4] = [0, 1, 2, 3];
 const BLOCKS: usize = 7;
 
@@ -25,7 +23,7 @@ impl Receiver {
     fn new() -> Receiver {
         let mut desks = vec![0; DESK_SIZE * CHANNELS.len()];
         let store = vec![0; BLOCK_SIZE * BLOCKS];
-        let (state, _) = station::set_up(SPACECRAFT, EDITION, &CHANNELS, &mut desks, &store);
+        let (state, _) = station::set_up(SPACECRAFT, &CHANNELS, &mut desks, &store);
         Receiver {
             state,
             desks,

@@ -1,6 +1,5 @@
 //! "A state is sound when": 01, The station, one function to a clause. Of a held slot's length
-//! request 2/14 of 02 took away "a multiple of 8", and the N that it gives has L/8 rounded up;
-//! request 6/14 put the edition beside what set-up names.
+//! request 2/14 of 02 took away "a multiple of 8", and the N that it gives has L/8 rounded up.
 //!
 //! "what isn't lent isn't judged": the clauses over the state alone are judged by every call
 //! that is handed a state, those over desk octets by frames only (O9).
@@ -13,7 +12,6 @@ use crate::model::transport;
 /// The clauses over the state alone.
 pub fn state_is_sound(state: &State) -> bool {
     set_up_is_as_above(state)
-        && its_edition_is_701_or_732(state)
         && each_block_is_free_or_of_a_held_slot(state)
         && held_slots(state).all(|(slot, file)| held_slot_is_sound(state, slot, file))
         && no_two_incomplete_slots_share_channel_and_application(state)
@@ -63,11 +61,6 @@ fn set_up_is_as_above(state: &State) -> bool {
             .all(|channel| channel.0 <= crate::model::frame::Channel::HIGHEST)
         && channels.iter().enumerate().all(distinct)
         && (1..=MOST_BLOCKS).contains(&usize::from(state.number_of_blocks))
-}
-
-/// "Set-up names the edition, 701 or 732." (02, 6/14)
-fn its_edition_is_701_or_732(state: &State) -> bool {
-    state.edition.is_known()
 }
 
 /// "each block is free or stands at one place of one held slot"

@@ -1,7 +1,7 @@
 //! The station's state and its calls: 01, The station, and the table of answers.
 
 use crate::model::bits::Fields;
-use crate::model::frame::{self, Channel, Edition, Start};
+use crate::model::frame::{self, Channel, Start};
 use crate::model::packet::Application;
 use crate::model::sound;
 use crate::model::transport::{self, BLOCK_SIZE};
@@ -79,7 +79,6 @@ pub struct Desk {
 #[derive(Clone, Debug, PartialEq, Eq)]
 pub struct State {
     pub spacecraft: u8,
-    pub edition: Edition,
     pub number_of_channels: u8,
     pub channels: Vec<Channel>,
     pub desks: Vec<Desk>,
@@ -94,7 +93,6 @@ impl State {
     pub fn all_zero() -> State {
         State {
             spacecraft: 0,
-            edition: Edition::default(),
             number_of_channels: 0,
             channels: vec![Channel::default(); MOST_CHANNELS],
             desks: vec![Desk::default(); MOST_CHANNELS],
@@ -171,24 +169,21 @@ fn store_fits(state: &State, store: &[u8]) -> bool {
 }
 
 /// Set-up. "at set-up 10 comes before 1"; "A fresh station has empty desks (all octets zero),
-/// no held file, all blocks free; the store's octets are as lent." Since 02, 6/14, it names the
-/// edition too, and another one than 701 and 732 is a bad set-up.
+/// no held file, all blocks free; the store's octets are as lent."
 pub fn set_up(
     spacecraft: u8,
-    edition: Edition,
     channels: &[u8],
     desks: &mut [u8],
     store: &[u8],
 ) -> (State, Result<(), Refusal>) {
     let mut state = State::all_zero();
-    if !edition.is_known() || !channels_are_good(channels) {
+    if !channels_are_good(channels) {
         return (state, Err(Refusal::SetUp));
     }
     let Some(blocks) = whole_blocks(store).filter(|_| desks_fit(desks, channels.len())) else {
         return (state, Err(Refusal::Memory));
     };
     state.spacecraft = spacecraft;
-    state.edition = edition;
     state.number_of_channels = channels.len() as u8;
     state.number_of_blocks = blocks;
     for (named, &channel) in state.channels.iter_mut().zip(channels) {
@@ -258,7 +253,7 @@ fn judge_frame(state: &State, unit: &[u8]) -> Result<(frame::Header, Vec<u8>), R
     if !state.watched().contains(&header.channel) {
         return Err(Refusal::NotWatched);
     }
-    if frame::start(state.edition, header.pointer) == Start::Refused {
+    if frame::start(header.pointer) == Start::Refused {
         return Err(Refusal::Pointer);
     }
     Ok((header, derandomised))

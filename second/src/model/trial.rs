@@ -4,7 +4,7 @@ use std::io::Write;
 
 use crate::model::bits::Fields;
 use crate::model::crc;
-use crate::model::frame::{Channel, Edition};
+use crate::model::frame::Channel;
 use crate::model::packet::Application;
 use crate::model::program::write_events;
 use crate::model::station::{self, Desk, Facts, Slot, State, DESK_SIZE};
@@ -144,12 +144,10 @@ impl Trial {
         self.store_lent = cut(command.d, STORE_SIZE);
     }
 
-    /// "edition c modulo 65,536": the cast cuts to 16 bits.
     fn set_up(&mut self, command: &Command, channels: &[u8], out: &mut dyn Write) {
-        let edition = Edition(command.c as u16);
         let desks = &mut self.desks[..self.desks_lent];
         let store = &self.store[..self.store_lent];
-        let (state, answer) = station::set_up(command.a, edition, channels, desks, store);
+        let (state, answer) = station::set_up(command.a, channels, desks, store);
         self.state = state;
         let _ = writeln!(out, "S {}", station::number(&answer));
     }
@@ -281,7 +279,6 @@ fn poke_state(state: &mut State, command: &Command) {
         10 => put(&mut state.slots, index, |file| file.length = d),
         11 => put(&mut state.slots, index, |file| file.last_count = d as u16),
         12 => put(&mut state.slots, index, |file| file.accepted = d as u16),
-        13 => state.edition = Edition(d as u16),
         _ => {}
     }
 }

@@ -4,7 +4,7 @@ use std::io::Write;
 
 use crate::model::bits::Fields;
 use crate::model::crc;
-use crate::model::frame::{self, Edition, Start};
+use crate::model::frame::{self, Start};
 use crate::model::noise;
 use crate::model::packet::{self, Flags, Kind, COUNT_MODULUS};
 use crate::model::records::{self, Header};
@@ -86,14 +86,13 @@ fn noise_answer(octets: &[u8], noise: &[u8]) -> Option<String> {
     })
 }
 
-/// "what the pointer means under edition 701"
 fn frame_answer(octets: &[u8]) -> Option<String> {
     fields_of(octets, frame::HEADER_SIZE)?;
     let header = frame::header(octets);
-    let meaning = match frame::start(Edition::B701, header.pointer) {
+    let meaning = match frame::start(header.pointer) {
         Start::At(offset) => format!("at {offset}"),
         Start::Refused => "refused".to_string(),
-        Start::Nowhere | Start::Idle => "none".to_string(),
+        Start::Nowhere => "none".to_string(),
     };
     let frame::Header {
         version,

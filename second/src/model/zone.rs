@@ -24,13 +24,12 @@ pub fn read(
     let octets = &mut desks[index * DESK_SIZE..(index + 1) * DESK_SIZE];
     let mut held = octets[..usize::from(state.desks[index].held)].to_vec();
     let gap = counter_gap(&state.desks[index], header);
-    let start = frame::start(state.edition, header.pointer);
     let mut filing = Filing::new(state, store, header.channel);
     if gap {
         filing.events.push(Event::CounterGap);
         held.clear();
     }
-    let left = read_zone(&mut filing, &held, zone, start);
+    let left = read_zone(&mut filing, &held, zone, frame::start(header.pointer));
     let events = filing.events;
     state.desks[index] = Desk {
         held: left.len() as u16,
@@ -55,12 +54,7 @@ enum Carried {
 
 /// Frames 5: the octets held "are carried on into the zone. When six are there, a bad header
 /// gives event 3 and drops the packet. Else r is what the packet lacked at the zone's start".
-/// Over an idle zone "held octets are dropped with event 2" (02, 6/14), whatever they are: no octet
-/// of the zone makes them six, and no r fits.
 fn carry_on(held: &[u8], zone: &[u8], start: Start) -> Carried {
-    if start == Start::Idle {
-        return Carried::Dropped(Event::PointerDiffers);
-    }
     let mut joined = [held, zone].concat();
     let header = packet::header(&joined[..packet::HEADER_SIZE]);
     if header.is_bad() {
@@ -78,7 +72,7 @@ fn carry_on(held: &[u8], zone: &[u8], start: Start) -> Carried {
 }
 
 /// Frames 5 and 6: what is left to be held. A packet carried to its end ended at the pointer,
-/// so that reading goes on there in every case. Of an idle zone nothing is left.
+/// so that reading goes on there in every case.
 fn read_zone(filing: &mut Filing, held: &[u8], zone: &[u8], start: Start) -> Vec<u8> {
     if !held.is_empty() {
         match carry_on(held, zone, start) {
@@ -89,7 +83,7 @@ fn read_zone(filing: &mut Filing, held: &[u8], zone: &[u8], start: Start) -> Vec
     }
     match start {
         Start::At(pointer) => read_packets(filing, &zone[pointer..]),
-        Start::Nowhere | Start::Idle | Start::Refused => Vec::new(),
+        Start::Nowhere | Start::Refused => Vec::new(),
     }
 }
 

@@ -1,10 +1,8 @@
 //! What the generators make: cases, random scripts and streams, the demo.
 
-use std::collections::{BTreeMap, BTreeSet};
+use std::collections::BTreeSet;
 
 use second::makers::{cases, demo, loads, random, stream};
-use second::model::frame::{self, Edition};
-use second::model::trial::{Command, Trial, COMMAND_SIZE};
 use second::model::{program, records, transport, trial};
 
 use crate::memory::Station;
@@ -31,21 +29,17 @@ fn cases_have_names_of_their_own_and_reset_what_they_need() {
     }
 }
 
-/// What was stored before the facts of a file could be asked for, and before there was an edition,
-/// is printed as before.
+/// What was stored before the facts of a file could be asked for is printed as before.
 #[test]
-fn cases_of_later_requests_stand_behind_the_others_and_before_the_ends() {
+fn cases_of_facts_stand_behind_the_others_and_before_the_ends() {
     let names: Vec<&str> = cases::all().iter().map(|case| case.name).collect();
     let part = |name: &&str| match name {
-        name if name.starts_with("end-") => 3,
-        name if name.starts_with("edition-") || name.starts_with("idle-") => 2,
+        name if name.starts_with("end-") => 2,
         name if name.starts_with("facts-") => 1,
         _ => 0,
     };
     assert!(names.iter().map(part).is_sorted());
-    for later in [1, 2] {
-        assert!(names.iter().filter(|name| part(name) == later).count() > 9);
-    }
+    assert!(names.iter().filter(|name| part(name) == 1).count() > 9);
 }
 
 #[test]
@@ -61,7 +55,7 @@ fn cases_run_to_their_end_but_for_those_that_end_the_run() {
         }
     }
     assert!(last_line(&tried(&all)).ends_with(" 0"));
-    assert!(all.len() < 560_000);
+    assert!(all.len() < 460_000);
 }
 
 fn made(run: fn(u64, u64, &mut dyn std::io::Write), seed: u64, size: u64) -> Vec<u8> {
@@ -148,80 +142,6 @@ fn random_scripts_ask_for_facts_of_every_kind() {
     ] {
         let met = lines.iter().filter(|met| *met == line).count();
         assert!(met >= least, "{line}: {met}");
-    }
-}
-
-/// The commands of a script that are carried out, each with its payload.
-fn commands(script: &[u8]) -> Vec<&[u8]> {
-    let mut commands = Vec::new();
-    let mut left = script;
-    while let Some(command) = left.get(..COMMAND_SIZE).map(Command::of) {
-        let payload = match command.letter {
-            b'S' => usize::from(command.b),
-            b'F' => command.c as usize,
-            _ => 0,
-        };
-        let known = b"MSFRLIPQH".contains(&command.letter);
-        let Some(whole) = left.get(..COMMAND_SIZE + payload).filter(|_| known) else {
-            break;
-        };
-        commands.push(whole);
-        left = &left[whole.len()..];
-    }
-    commands
-}
-
-/// The pointer of a frame that refusals 1 to 8 let pass, with the edition and whether octets were
-/// held on its desk that no gap drops.
-fn met_pointer(trial: &Trial, command: &[u8]) -> Option<(u16, u16, bool)> {
-    let unit = command.get(COMMAND_SIZE..).filter(|unit| {
-        command[0] == b'F' && unit.len() == frame::SIZE && frame::has_marker(unit)
-    })?;
-    let header = frame::header(&frame::derandomised(unit)[..frame::HEADER_SIZE]);
-    let state = &trial.state;
-    let watched = state.watched().iter();
-    let desk = &state.desks[watched.into_iter().position(|&c| c == header.channel)?];
-    let follows = frame::counter_follows(desk.last_counter, header.counter);
-    let right = header.version == 1 && header.spacecraft == state.spacecraft;
-    let pointer = Some(header.pointer).filter(|_| right)?;
-    Some((state.edition.0, pointer, desk.held > 0 && follows))
-}
-
-/// Both editions at set-up and by pokes, and both sides of the line between them.
-#[test]
-fn random_scripts_go_by_both_editions() {
-    let mut met: BTreeMap<(u16, u16, bool), usize> = BTreeMap::new();
-    let mut set_ups = [0; 3];
-    let mut pokes = [0; 2];
-    for seed in 1..=16 {
-        let script = made(random::run, seed, 600);
-        let mut trial = Trial::default();
-        for command in commands(&script) {
-            let number = Command::of(&command[..COMMAND_SIZE]);
-            match (number.letter, number.a, Edition(number.c as u16)) {
-                (b'S', _, Edition::B701) => set_ups[0] += 1,
-                (b'S', _, Edition::B732) => set_ups[1] += 1,
-                (b'S', _, _) => set_ups[2] += 1,
-                (b'Q', 13, _) => pokes[0] += 1,
-                (b'Q', 14.., _) => pokes[1] += 1,
-                _ => {}
-            }
-            if let Some(pointer) = met_pointer(&trial, command) {
-                *met.entry(pointer).or_default() += 1;
-            }
-            trial.follow(command);
-        }
-    }
-    assert!(set_ups.iter().all(|&times| times >= 5), "{set_ups:?}");
-    assert!(pokes[0] >= 50 && pokes[1] >= 3, "{pokes:?}");
-    for edition in [701, 732] {
-        for (pointer, least) in [(2046, 20), (2045, 4), (2047, 20), (884, 2)] {
-            for held in [false, true] {
-                let times = met.get(&(edition, pointer, held)).copied();
-                let enough = times.is_some_and(|times| times >= least);
-                assert!(enough, "{edition} {pointer} {held}: {times:?}");
-            }
-        }
     }
 }
 

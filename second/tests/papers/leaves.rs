@@ -1,7 +1,7 @@
 //! The published vectors of the leaves.
 
 use second::model::crc::crc;
-use second::model::frame::{self, Channel, Edition, Start};
+use second::model::frame::{self, Channel, Start};
 use second::model::noise;
 use second::model::packet::{self, Application, Flags, Kind};
 use second::model::transport;
@@ -70,19 +70,10 @@ fn frame_headers() {
 
 #[test]
 fn pointers() {
-    for pointer in 0..2048 {
-        let (old, later) = [Edition::B701, Edition::B732]
-            .map(|edition| frame::start(edition, pointer))
-            .into();
-        let expected = match pointer {
-            0..=883 => Start::At(usize::from(pointer)),
-            884..=2046 => Start::Refused,
-            _ => Start::Nowhere,
-        };
-        assert_eq!(old, expected, "{pointer}");
-        let expected = if pointer == 2046 { Start::Idle } else { old };
-        assert_eq!(later, expected, "{pointer}");
-    }
+    assert_eq!(frame::start(883), Start::At(883));
+    assert_eq!(frame::start(884), Start::Refused);
+    assert_eq!(frame::start(2046), Start::Refused);
+    assert_eq!(frame::start(2047), Start::Nowhere);
     assert_eq!(frame::start_wanted(883), Start::At(883));
     assert_eq!(frame::start_wanted(884), Start::Nowhere);
 }

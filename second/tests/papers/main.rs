@@ -2,7 +2,6 @@
 
 mod catalogue;
 mod clerks;
-mod edition;
 mod example;
 mod facts;
 mod generators;

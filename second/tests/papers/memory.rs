@@ -1,7 +1,7 @@
 //! A station with its memory, and the packets that the cases are made of.
 
 use second::makers::make::{self, File, PacketFields};
-use second::model::frame::{Channel, Edition};
+use second::model::frame::Channel;
 use second::model::packet::{Application, Flags};
 use second::model::station::{self, Refusal, State};
 
@@ -15,16 +15,11 @@ pub struct Station {
 }
 
 impl Station {
-    /// Spacecraft 1, edition 701.
-    pub fn new(channels: &[u8], blocks: usize) -> Station {
-        Station::under(Edition::B701, channels, blocks)
-    }
-
     /// Spacecraft 1.
-    pub fn under(edition: Edition, channels: &[u8], blocks: usize) -> Station {
+    pub fn new(channels: &[u8], blocks: usize) -> Station {
         let mut desks = vec![0x55; 8198 * channels.len()];
         let store = vec![0xaa; 8190 * blocks];
-        let (state, answer) = station::set_up(1, edition, channels, &mut desks, &store);
+        let (state, answer) = station::set_up(1, channels, &mut desks, &store);
         assert_eq!(answer, Ok(()));
         Station {
             state,

@@ -1,23 +1,18 @@
 //! 01's table of answers, in the order of its numbers.
 
 use second::makers::make;
-use second::model::frame::{Channel, Edition};
+use second::model::frame::Channel;
 use second::model::station::{self, Refusal, State};
 
 use crate::memory::{frame, Station};
 
 fn set_up(channels: &[u8], desks: usize, store: usize) -> Result<(), Refusal> {
-    set_up_under(701, channels, desks, store)
-}
-
-fn set_up_under(edition: u16, channels: &[u8], desks: usize, store: usize) -> Result<(), Refusal> {
     let (mut desks, store) = (vec![9; desks], vec![9; store]);
-    let (state, answer) = station::set_up(7, Edition(edition), channels, &mut desks, &store);
+    let (state, answer) = station::set_up(7, channels, &mut desks, &store);
     if answer.is_err() {
         assert!(state == State::all_zero() && desks.iter().all(|&octet| octet == 9));
     } else {
         assert!(desks.iter().all(|&octet| octet == 0));
-        assert_eq!(state.edition, Edition(edition));
     }
     answer
 }
@@ -38,20 +33,6 @@ fn set_up_gives_10_before_1() {
     assert_eq!(set_up(&[0], 8198, 8191), Err(Refusal::Memory));
     assert_eq!(set_up(&[0], 8198, 4096 * 8190), Ok(()));
     assert_eq!(set_up(&[0], 8198, 4097 * 8190), Err(Refusal::Memory));
-}
-
-/// "Set-up names the edition, 701 or 732." (02, 6/14)
-#[test]
-fn set_up_gives_10_for_every_other_edition() {
-    for edition in (0..1000).chain([1024, 2046, 65_236, 65_535]) {
-        let good = edition == 701 || edition == 732;
-        let given = |right| if good { right } else { Err(Refusal::SetUp) };
-        assert_eq!(set_up_under(edition, &[62], 8198, 8190), given(Ok(())));
-        let memory = Err(Refusal::Memory);
-        assert_eq!(set_up_under(edition, &[62], 8197, 8190), given(memory));
-        let channels = set_up_under(edition, &[63], 0, 0);
-        assert_eq!(channels, Err(Refusal::SetUp));
-    }
 }
 
 #[test]

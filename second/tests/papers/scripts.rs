@@ -28,7 +28,6 @@ const QUESTIONS: &[(&str, &str)] = &[
     ("c 00", "?"),
     ("F 4042123456fffb73", "F 1 1 2 1193046 883 at 883"),
     ("F 4042000000000374", "F 1 1 2 0 884 refused"),
-    ("F 40420000000007fe", "F 1 1 2 0 2046 refused"),
     ("F 40420000000007ff", "F 1 1 2 0 2047 none"),
     ("F 40420000000007", "?"),
     ("P 0005c00000", "P short"),
@@ -130,7 +129,7 @@ fn tried(commands: &[Vec<u8>]) -> String {
 
 fn set_up() -> Vec<u8> {
     let lent = command(b'M', 0, 0, 4 * 8198, 7 * 8190, &[]);
-    [lent, command(b'S', 1, 4, 701, 0, &[0, 1, 2, 3])].concat()
+    [lent, command(b'S', 1, 4, 0, 0, &[0, 1, 2, 3])].concat()
 }
 
 #[test]
@@ -177,7 +176,7 @@ fn pokes() {
         command(b'Q', 7, 6, 0, 5, &[]),
         command(b'Q', 4, 2, 0, 1 << 63, &[]),
         command(b'Q', 12, 32, 0, 1, &[]),
-        command(b'Q', 14, 0, 0, 1, &[]),
+        command(b'Q', 13, 0, 0, 1, &[]),
         command(b'H', 0, 0, 0, 0, &[]),
         command(b'L', 0, 4, 0, 0, &[]),
         command(b'Q', 1, 99, 0, 0, &[]),
@@ -193,47 +192,6 @@ fn pokes() {
         crcs.0, crcs.1
     );
     assert_eq!(out, expected);
-}
-
-/// "edition c modulo 65,536", and field 13, which has no index.
-#[test]
-fn editions() {
-    let idle = make::frame(1, second::model::frame::Channel(0), 0, 2046, &[]);
-    let of = |edition: u32| {
-        let lent = command(b'M', 0, 0, 8198, 8190, &[]);
-        let set_up = command(b'S', 1, 1, edition, 0, &[0]);
-        [lent, set_up, command(b'F', 0, 900, 1024, 0, &idle)].concat()
-    };
-    let poked = |index: u16, number: u64| {
-        let poke = command(b'Q', 13, index, 0, number, &[]);
-        [poke, command(b'F', 0, 900, 0, 0, &[])].concat()
-    };
-    for (edition, answers) in [
-        (701, "S 0\nF 9 0\n"),
-        (732, "S 0\nF 0 0\n"),
-        (65_536 + 701, "S 0\nF 9 0\n"),
-        (0xffff_0000 + 732, "S 0\nF 0 0\n"),
-        (0, "S 10\nF 1 0\n"),
-        (733, "S 10\nF 1 0\n"),
-        (65_536, "S 10\nF 1 0\n"),
-    ] {
-        let out = tried(&[of(edition)]);
-        assert_eq!(out, format!("{answers}END 3 0\n"), "{edition}");
-    }
-    for (number, answer) in [
-        (701, 3),
-        (732, 3),
-        (65_536 + 732, 3),
-        ((1 << 63) + 701, 3),
-        (0, 2),
-        (733, 2),
-    ] {
-        for index in [0, 7, 65_535] {
-            let out = tried(&[of(701), poked(index, number)]);
-            let expected = format!("S 0\nF 9 0\nF {answer} 0\nEND 5 0\n");
-            assert_eq!(out, expected, "{index} {number}");
-        }
-    }
 }
 
 #[test]

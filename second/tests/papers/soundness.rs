@@ -1,7 +1,7 @@
 //! Every clause of 01's soundness broken alone.
 
 use second::makers::make;
-use second::model::frame::{Channel, Edition};
+use second::model::frame::Channel;
 use second::model::packet::Application;
 use second::model::station::{self, Refusal, State};
 
@@ -61,23 +61,6 @@ fn set_up_is_as_above() {
     assert_eq!(answers(&mut station), (2, 2, 1));
     let mut station = busy();
     station.state.number_of_blocks = 4097;
-    assert_eq!(answers(&mut station), (1, 2, 1));
-}
-
-/// "Set-up names the edition, 701 or 732." (02, 6/14)
-#[test]
-fn its_edition_is_701_or_732() {
-    for edition in [0, 1, 445, 700, 702, 731, 733, 957, 2046, 65_535] {
-        assert!(broken(|state| state.edition = Edition(edition)));
-    }
-    for edition in [701, 732] {
-        assert!(!broken(|state| state.edition = Edition(edition)));
-    }
-    let mut station = busy();
-    station.state.edition = Edition(733);
-    let facts = station::facts(&station.state, &station.store, 0);
-    assert_eq!(facts, Err(Refusal::NotSound));
-    station.store.pop();
     assert_eq!(answers(&mut station), (1, 2, 1));
 }
 

@@ -11,7 +11,7 @@ use Rattle.examine.proofs.examine.Statement.{statement}
 use Rattle.examine.proofs.examine.Tie as tie
 
 returns : tie.Need-returns
-returns c = (sym (other-size _ _ _ _ c.if1.true), sym (plain-unframed _ _ (missized _ c.if1.true)))
+returns c = (sym (other-size _ _ _ c.if1.true), sym (plain-unframed _ _ (missized _ c.if1.true)))
 
 marked-requires : tie.Need-marked-requires
 marked-requires c κs = search rules
@@ -20,7 +20,7 @@ returns-2 : tie.Need-returns-2
 returns-2 c =
     let size = c.before.before.if1.false in
     let unlike = sym c.before.marked.ensures ∙ not-true _ c.if2.true in
-    (sym (other-marker _ _ _ _ size unlike), sym (plain-unframed _ _ (unmarked _ size unlike)))
+    (sym (other-marker _ _ _ size unlike), sym (plain-unframed _ _ (unmarked _ size unlike)))
 
 sub-mix : tie.Need-overflow-sub-mix
 sub-mix c = search rules
@@ -50,7 +50,7 @@ returns-3 c =
     let size = test.before.before.if1.false in
     let framed = is_framed _ size (sym test.before.marked.ensures ∙ not-false _ test.if2.false) in
     let plain = mixing.mix.ensures ∙ coded _ size in (
-      c.examine-header.ensures ∙ ap (examined_header _ _ _) (c.before.read.ensures.0 ∙ ap frame_of plain) ∙ sym (of-header _ _ _ _ framed),
+      c.examine-header.ensures ∙ ap (examined_header _ _) (c.before.read.ensures.0 ∙ ap frame_of plain) ∙ sym (of-header _ _ _ framed),
       plain ∙ sym (plain-framed _ _ framed),
     )
 

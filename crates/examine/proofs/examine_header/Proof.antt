@@ -7,15 +7,15 @@ use Rattle.examine.proofs.examine_header.Statement.{statement}
 use Rattle.examine.proofs.examine_header.Tie as tie
 
 returns : tie.Need-returns
-returns c = sym (other-version _ _ _ _ c.if1.true)
+returns c = sym (other-version _ _ _ c.if1.true)
 
 returns-2 : tie.Need-returns-2
-returns-2 c = sym (other-spacecraft _ _ _ _ c.before.before.if1.false c.if2.true)
+returns-2 c = sym (other-spacecraft _ _ _ c.before.before.if1.false c.if2.true)
 
 returns-3 : tie.Need-returns-3
 returns-3 c =
     let s = c.before.before.before in
-    sym (fill _ _ _ _ s.before.before.if1.false s.if2.false c.if3.true)
+    sym (fill _ _ _ s.before.before.if1.false s.if2.false c.if3.true)
 
 desk-of-requires : tie.Need-desk-of-requires
 desk-of-requires c κs = search rules
@@ -31,7 +31,7 @@ returns-4 c =
     let d = c.before.before in
     let s = d.before.before.before.before in
     sym
-    (not-watched _ _ _ _ s.before.before.if1.false s.if2.false d.before.if3.false
+    (not-watched _ _ _ s.before.before.if1.false s.if2.false d.before.if3.false
     (sym d.desk-of.ensures ∙ tag-not-watched _ c.before.match.keys2))
 
 meaning-requires : tie.Need-meaning-requires
@@ -47,7 +47,7 @@ returns-5 c =
     let d = w.before.before in
     let s = d.before.before.before.before in
     sym
-    (pointer-refused _ _ _ _ s.before.before.if1.false s.if2.false d.before.if3.false _ (sym d.desk-of.ensures ∙ w.w.given.1)
+    (pointer-refused _ _ _ s.before.before.if1.false s.if2.false d.before.if3.false _ (sym d.desk-of.ensures ∙ w.w.given.1)
     (sym m.meaning.ensures ∙ tag-refused _ c.before.match2.keys1))
 
 returns-6 : tie.Need-returns-6
@@ -57,7 +57,7 @@ returns-6 c =
     let d = w.before.before in
     let s = d.before.before.before.before in
     sym
-    (accepted _ _ _ _ _
+    (accepted _ _ _ _
     (record {
       version = s.before.before.if1.false;
       spacecraft = s.if2.false;

@@ -84,29 +84,6 @@ returns-3 c = (
       (behind at-number.number.ensures.1 c.before.before.word2.ensures),
 )
 
-enum-told-3 : tie.Need-enum-told-3
-enum-told-3 c = search rules
-
-slice-aggregate-word-3 : tie.Need-slice-aggregate-word-3
-slice-aggregate-word-3 c = search rules
-
-word-requires-3 : tie.Need-word-requires-3
-word-requires-3 c κs = search rules
-
-same-length-4 : tie.Need-same-length-4
-same-length-4 c = search rules
-
-returns-4 : tie.Need-returns-4
-unfolding meaning_text
-returns-4 c = (
-  search rules,
-  let at-enum-told3 = c.before.before.before.before.before in
-      let at-meaning = at-enum-told3.before.before in
-      let at-number = at-meaning.before.before.before in
-      rw (sym at-meaning.meaning.ensures ∙ at-enum-told3.enum-told3.given.1)
-      (behind at-number.number.ensures.1 c.before.before.word3.ensures),
-)
-
 pub pointer-answer-spec : {M : Type 1} → statement M
 pointer-answer-spec =
     tie.close
@@ -128,9 +105,4 @@ pointer-answer-spec =
     slice-aggregate-word-2
     word-requires-2
     same-length-3
-    returns-3
-    enum-told-3
-    slice-aggregate-word-3
-    word-requires-3
-    same-length-4
-    returns-4)
+    returns-3)

@@ -9,7 +9,6 @@ use Rattle.octets.proofs.Lists.{unmap}
 use Rattle.octets.proofs.Tests.{denied, granted}
 use Rattle.frame.specs.declared.Accepted.{Accepted}
 use Rattle.frame.specs.declared.Channel.{Channel}
-use Rattle.frame.specs.declared.Edition.{Edition}
 use Rattle.frame.specs.declared.Examined.{Examined}
 use Rattle.frame.specs.declared.Examined.TheVariants.{Good}
 use Rattle.frame.specs.Header.{derandomised}
@@ -53,10 +52,9 @@ orderly : (d : tie.Else3)
 orderly d = granted d.before.are-desks-sound.ensures d.if3.false
 
 -- the scratch octets, where a frame was found good
-plain-good : (edition : Edition) (craft : ℕ) (watched : List Channel) (f before : List ℕ) {plain : List ℕ} {x : Examined}
-    → x ≡ examined edition craft watched f
+plain-good : (craft : ℕ) (watched : List Channel) (f before : List ℕ) {plain : List ℕ} {x : Examined} → x ≡ examined craft watched f
     → plain ≡ plain_after f before → (a : Accepted) → x ≡ Good a → plain ≡ derandomised f
-plain-good edition craft watched f before e p a g = p ∙ plain-framed f before (good-framed edition craft watched f a (sym e ∙ g))
+plain-good craft watched f before e p a g = p ∙ plain-framed f before (good-framed craft watched f a (sym e ∙ g))
 
 lent-right-requires : tie.Need-lent-right-requires
 lent-right-requires c κs = search rules
@@ -86,7 +84,7 @@ returns-3 c =
 
 examine-requires : tie.Need-examine-requires
 examine-requires c κs =
-    let e = steady c.before.before.before in
+    let e = steady c.before.before in
     (search rules, channels-few _ (sized (start (fits e))) (sound e))
 
 same_length : tie.Need-same-length
@@ -94,9 +92,9 @@ same_length c = search rules
 
 returns-4 : tie.Need-returns-4
 returns-4 c =
-    let d = c.before.before.before.before.before.before in
+    let d = c.before.before.before.before.before in
     let told = c.before.before.examine.ensures in
-    (told.0 ∙ as-examined _ _ _ _ _ (lent (fits (steady d))) (sound (steady d)) (orderly d), plain-good _ _ _ _ _ told.0 told.1)
+    (told.0 ∙ as-examined _ _ _ _ _ (lent (fits (steady d))) (sound (steady d)) (orderly d), plain-good _ _ _ _ told.0 told.1)
 
 pub admit-spec : {M : Type 1} → statement M
 admit-spec =

@@ -11,8 +11,6 @@ use lib.ListN.{take}
 use Rattle.octets.specs.Each.{each}
 use Rattle.octets.proofs.Lists.{take-map}
 use Rattle.octets.proofs.Tests.{denied, granted, and_left, and_right}
-use Rattle.frame.specs.declared.Edition.{Edition}
-use Rattle.frame.specs.Kinds.{good_edition}
 use Rattle.state.specs.declared.Station.{Station}
 use Rattle.state.specs.Slots.{number, named}
 use Rattle.state.specs.Blocks.{table}
@@ -22,25 +20,25 @@ use Rattle.sound.proofs.are_parts_sound.Statement.{statement}
 use Rattle.sound.proofs.are_parts_sound.Tie as tie
 
 -- a set-up that is right bounds the channels and the blocks
-module _ (edition : Edition) (channels : ℕ) (names : List ℕ) (blocks : ℕ) (e : set_up_sound edition channels names blocks ≡ true) where
+module _ (channels : ℕ) (names : List ℕ) (blocks : ℕ) (e : set_up_sound channels names blocks ≡ true) where
   set-few : channels ≤ 8
   unfolding set_up_sound
-  set-few = leb-true _ _ (and_right (good_edition edition) _ (and_left _ _ (and_left _ _ (and_left _ _ e))))
+  set-few = leb-true _ _ (and_left _ _ (and_left _ _ (and_left _ _ e)))
 
   set-store : blocks ≤ 4096
   unfolding set_up_sound
-  set-store = leb-true _ _ (and_right (good_edition edition && leb channels 8 && good_channels names && leb 1 blocks) _ e)
+  set-store = leb-true _ _ (and_right (leb channels 8 && good_channels names && leb 1 blocks) _ e)
 
 -- the clauses, test after test
 module _ (s : Station) {names : List ℕ} (e : names ≡ map number s.watched) where
   first : take s.channels names ≡ named s
   first = rw (e, take-map number s.channels s.watched)
 
-  no-set-up : set_up_sound s.edition s.channels (take s.channels names) s.blocks ≡ false → is_sound s ≡ false
+  no-set-up : set_up_sound s.channels (take s.channels names) s.blocks ≡ false → is_sound s ≡ false
   unfolding is_sound
   no-set-up n = rw (← first, n)
 
-  module _ (set-up : set_up_sound s.edition s.channels (take s.channels names) s.blocks ≡ true) where
+  module _ (set-up : set_up_sound s.channels (take s.channels names) s.blocks ≡ true) where
     no-owner : each is_owner (table s) ≡ false → is_sound s ≡ false
     unfolding is_sound
     no-owner n = rw (← first, set-up, n)
@@ -77,7 +75,7 @@ cast-count-owners c = search rules
 count-owners-requires : tie.Need-count-owners-requires
 count-owners-requires c κs =
     let up = c.before.before in
-    let store = set-store _ _ _ _ (granted up.before.set-up-sound.ensures up.if1.false) in
+    let store = set-store _ _ _ (granted up.before.set-up-sound.ensures up.if1.false) in
     search rules
 
 returns-2 : tie.Need-returns-2
@@ -95,7 +93,7 @@ part-slots-sound-start c = search rules
 part-slots-sound-end : tie.Need-slice-bounds-slots-sound-end
 part-slots-sound-end c =
     let up = c.before.before.before.before.before.before.before in
-    let few = set-few _ _ _ _ (granted up.before.set-up-sound.ensures up.if1.false) in
+    let few = set-few _ _ _ (granted up.before.set-up-sound.ensures up.if1.false) in
     search rules
 
 slots-sound-requires : tie.Need-slots-sound-requires
@@ -110,7 +108,7 @@ returns-3 c =
 desks-hold-requires : tie.Need-desks-hold-requires
 desks-hold-requires c κs =
     let up = c.before.before.before.before.before.before.before.before.before.before.before in
-    omega (arith, set-few _ _ _ _ (granted up.before.set-up-sound.ensures up.if1.false))
+    omega (arith, set-few _ _ _ (granted up.before.set-up-sound.ensures up.if1.false))
 
 returns-4 : tie.Need-returns-4
 returns-4 c =

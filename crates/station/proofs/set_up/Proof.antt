@@ -9,64 +9,61 @@ use borrow.Author.Tests.{eq-eqb, ne_eqb}
 use lib.ListN.{length, replicate, length-replicate}
 use Rattle.octets.specs.Buffer.{put}
 use Rattle.octets.proofs.Put.{put_whole}
-use Rattle.octets.proofs.Tests.{denied, granted, and_right}
-use Rattle.frame.specs.declared.Edition.{Edition}
-use Rattle.frame.specs.Kinds.{good_edition}
+use Rattle.octets.proofs.Tests.{denied, granted}
 use Rattle.state.specs.declared.Station.{Station}
 use Rattle.state.specs.Slots.{all_zero_state}
 use Rattle.state.specs.Decision.{good_channels}
 use Rattle.station.specs.declared.Answered.{Answered}
-use Rattle.station.specs.SetUp.{set_up_gives, whole_blocks, fresh_station, good_names, set_up}
+use Rattle.station.specs.SetUp.{set_up_gives, whole_blocks, fresh_station, set_up}
 use Rattle.station.specs.Files.{answered}
 use Rattle.station.proofs.Fresh.{few-channels, whole-store}
 use Rattle.station.proofs.set_up.Statement.{statement}
 use Rattle.station.proofs.set_up.Tie as tie
 
-module _ (craft : ℕ) (edition : Edition) (channels desks store : List ℕ) {r : Answered} where
-  bad-names : r ≡ answered 10 all_zero_state → good_names edition channels ≡ false
-      → set_up_gives r.answer r.station desks ≡ set_up craft edition channels desks store
+module _ (craft : ℕ) (channels desks store : List ℕ) {r : Answered} where
+  bad-channels : r ≡ answered 10 all_zero_state → good_channels channels ≡ false
+      → set_up_gives r.answer r.station desks ≡ set_up craft channels desks store
   unfolding set_up
-  bad-names e bad = rw (e, bad)
+  bad-channels e bad = rw (e, bad)
 
-  module _ (good : good_names edition channels ≡ true) where
+  module _ (good : good_channels channels ≡ true) where
     other-desks : r ≡ answered 1 all_zero_state → (length desks ≡ 8198 * length channels → ⊥)
-        → set_up_gives r.answer r.station desks ≡ set_up craft edition channels desks store
+        → set_up_gives r.answer r.station desks ≡ set_up craft channels desks store
     unfolding set_up
     other-desks e f = rw (e, good, ne_eqb _ _ f)
 
     module _ (fit : length desks ≡ 8198 * length channels) where
       other-store : r ≡ answered 1 all_zero_state → whole_blocks store ≡ false
-          → set_up_gives r.answer r.station desks ≡ set_up craft edition channels desks store
+          → set_up_gives r.answer r.station desks ≡ set_up craft channels desks store
       unfolding set_up
       other-store e other = rw (e, good, eq-eqb _ _ fit, other)
 
-      all_right : {s : Station} {d : List ℕ} → r ≡ answered 0 s → s ≡ fresh_station craft edition channels (length store / 8190)
+      all_right : {s : Station} {d : List ℕ} → r ≡ answered 0 s → s ≡ fresh_station craft channels (length store / 8190)
           → d ≡ put desks 0 (replicate (length desks) 0) → whole_blocks store ≡ true
-          → set_up_gives r.answer r.station d ≡ set_up craft edition channels desks store
+          → set_up_gives r.answer r.station d ≡ set_up craft channels desks store
       unfolding set_up
       all_right e q p whole =
           rw (e, q, p, put_whole desks (replicate (length desks) 0) (length-replicate (length desks) 0), good, eq-eqb _ _ fit, whole)
 
-good-names-requires : tie.Need-good-names-requires
-good-names-requires c κs = search rules
+good-channels-requires : tie.Need-good-channels-requires
+good-channels-requires c κs = search rules
 
 not-set-up-requires : tie.Need-not-set-up-requires
 not-set-up-requires c κs = search rules
 
 returns : tie.Need-returns
-returns c = bad-names _ _ _ _ _ c.not-set-up.ensures (search denied)
+returns c = bad-channels _ _ _ _ c.not-set-up.ensures (search denied)
 
 mul-if2 : tie.Need-overflow-mul-if2
 mul-if2 c =
-    let i = c.before.before.before.before.before.args in
-    let few = few-channels i.channels.now (and_right (good_edition i.edition) (good_channels i.channels.now) (search granted)) in
+    let few = few-channels c.before.before.before.before.before.args.channels.now (search granted) in
     omega arith
 
 not-set-up-requires-2 : tie.Need-not-set-up-requires-2
 not-set-up-requires-2 c κs = search rules
 
 returns-2 : tie.Need-returns-2
-returns-2 c = other-desks _ _ _ _ _ (search granted) c.not-set-up2.ensures c.before.if2.true
+returns-2 c = other-desks _ _ _ _ (search granted) c.not-set-up2.ensures c.before.if2.true
 
 whole-blocks-requires : tie.Need-whole-blocks-requires
 whole-blocks-requires c κs = search rules
@@ -75,7 +72,7 @@ not-set-up-requires-3 : tie.Need-not-set-up-requires-3
 not-set-up-requires-3 c κs = search rules
 
 returns-3 : tie.Need-returns-3
-returns-3 c = other-store _ _ _ _ _ (search granted) c.before.before.before.if2.false c.not-set-up3.ensures (search denied)
+returns-3 c = other-store _ _ _ _ (search granted) c.before.before.before.if2.false c.not-set-up3.ensures (search denied)
 
 blank-requires : tie.Need-blank-requires
 blank-requires c κs = search rules
@@ -86,9 +83,7 @@ cast-fresh-station c =
     omega arith
 
 fresh-station-requires : tie.Need-fresh-station-requires
-fresh-station-requires c κs =
-    let i = c.before.before.before.before.before.before.before.before.before.before.before.before.args in
-    and_right (good_edition i.edition) (good_channels i.channels.now) (search granted)
+fresh-station-requires c κs = search granted
 
 say-requires : tie.Need-say-requires
 say-requires c κs = search rules
@@ -97,13 +92,13 @@ same_length : tie.Need-same-length
 same_length c = search rules
 
 returns-4 : tie.Need-returns-4
-returns-4 c = all_right _ _ _ _ _ (search granted) (omega arith) c.say.ensures c.before.fresh-station.ensures c.before.before.before.before.blank.ensures (search granted)
+returns-4 c = all_right _ _ _ _ (search granted) (omega arith) c.say.ensures c.before.fresh-station.ensures c.before.before.before.before.blank.ensures (search granted)
 
 pub set-up-spec : {M : Type 1} → statement M
 set-up-spec =
     tie.close
     (tie.spec
-    good-names-requires
+    good-channels-requires
     not-set-up-requires
     returns
     mul-if2

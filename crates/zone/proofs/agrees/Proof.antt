@@ -1,7 +1,7 @@
 -- `zone::agrees` is the definition of the same name, by what the pointer says. Assumes nothing.
 use mathlib.Core.Path.{sym, ap}
 use borrow.Author.Rules.{rules}
-use Rattle.frame.proofs.Tags.{tag-no-start, tag-idle}
+use Rattle.frame.proofs.Tags.{tag-no-start}
 use Rattle.zone.specs.Zone.{agrees}
 use Rattle.zone.proofs.agrees.Statement.{statement}
 use Rattle.zone.proofs.agrees.Tie as tie
@@ -30,18 +30,9 @@ enum-told-2 c = search rules
 
 returns-3 : tie.Need-returns-3
 unfolding agrees
-returns-3 c =
-    let i = c.before.before.args in
-    sym (ap (agrees i.lacked) (tag-idle i.pointer c.before.match.keys3))
-
-enum-told-3 : tie.Need-enum-told-3
-enum-told-3 c = search rules
-
-returns-4 : tie.Need-returns-4
-unfolding agrees
-returns-4 c = search rules
+returns-3 c = search rules
 
 pub agrees-spec : {M : Type 1} → statement M
 agrees-spec =
     tie.close
-    (tie.spec enum-known-pointer cast-result returns enum_told returns-2 enum-told-2 returns-3 enum-told-3 returns-4)
+    (tie.spec enum-known-pointer cast-result returns enum_told returns-2 enum-told-2 returns-3)

@@ -2,7 +2,7 @@
 use mathlib.Core.Path.{sym, ap}
 use mathlib.Core.Logic.{⊎_elim}
 use borrow.Author.Rules.{rules}
-use Rattle.frame.proofs.Tags.{tag-no-start, tag-idle, tag-refused}
+use Rattle.frame.proofs.Tags.{tag-no-start, tag-refused}
 use Rattle.zone.specs.Contract.{start_at}
 use Rattle.zone.proofs.start_at.Statement.{statement}
 use Rattle.zone.proofs.start_at.Tie as tie
@@ -14,8 +14,7 @@ returns : tie.Need-returns
 unfolding start_at
 returns c =
     let p = c.before.args.pointer in
-    ⊎_elim (λ tag. sym (ap start_at (tag-no-start p tag)))
-    (⊎_elim (λ tag. sym (ap start_at (tag-idle p tag))) (λ tag. sym (ap start_at (tag-refused p tag)))) c.match.keys2
+    ⊎_elim (λ tag. sym (ap start_at (tag-no-start p tag))) (λ tag. sym (ap start_at (tag-refused p tag))) c.match.keys2
 
 cast-result : tie.Need-overflow-cast-result
 cast-result c = search rules

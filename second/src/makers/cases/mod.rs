@@ -3,12 +3,10 @@
 
 mod answers;
 mod desks;
-mod editions;
 mod ends;
 mod errors;
 mod events;
 mod facts;
-mod idle;
 mod let_go;
 mod lines;
 mod pokes;
@@ -36,32 +34,27 @@ impl Case {
         script.octets
     }
 
-    /// Those that end the run stand behind all others; before them those of the edition and of
-    /// idle zones, and before these those of the facts of a file, so that what was stored before
-    /// requests 5/14 and 6/14 is printed as before.
+    /// Those that end the run stand behind all others, and those of the facts of a file before
+    /// them, so that what was stored before request 5/14 is printed as before.
     fn part(&self) -> u8 {
         match self.name {
-            name if name.starts_with(ends::PREFIX) => 3,
-            name if name.starts_with(idle::PREFIX) => 2,
-            name if name.starts_with(editions::PREFIX) => 2,
+            name if name.starts_with(ends::PREFIX) => 2,
             name if name.starts_with(facts::PREFIX) => 1,
             _ => 0,
         }
     }
 }
 
-/// All cases in the order of their names, those of the facts of a file behind them, then those of
-/// the edition and of idle zones, and last those that end the run.
+/// All cases in the order of their names, those of the facts of a file behind them, and last those
+/// that end the run.
 pub fn all() -> Vec<Case> {
     let mut cases: Vec<Case> = [
         answers::CASES,
         desks::CASES,
-        editions::CASES,
         ends::CASES,
         errors::CASES,
         events::CASES,
         facts::CASES,
-        idle::CASES,
         let_go::CASES,
         lines::CASES,
         pokes::CASES,
@@ -99,8 +92,7 @@ Scripts for `trial` (docs/TRIAL.md), each small and named for what it shows, and
 `second case NAME` prints, `NAME.expected` what `second trial` makes of it; `tests/make-stored` writes both anew, and this page too. Each case
 lends memory and sets up at its start, so that they can stand behind one another in any order; those that end the run come last. Octets
 stay in the store from case to case, so that `H` and some reads print other numbers there than alone.
-Every set-up is of edition 701 unless the case says otherwise.
-What stands in quotation marks is the rules paper, or request 2/14, 3/14, 5/14 or 6/14 of the change requests (02) where that is named.
+What stands in quotation marks is the rules paper, or request 2/14, 3/14 or 5/14 of the change requests (02) where that is named.
 
 | case | shows |
 |---|---|

@@ -37,7 +37,7 @@ fn ignored(script: &mut Script) {
         2 * DESK_SIZE as u32,
         4 * BLOCK_SIZE as u64,
     );
-    script.command(b'S', 1, 2, 0xffff_0000 | 701, u64::MAX);
+    script.command(b'S', 1, 2, u32::MAX, u64::MAX);
     script.octets.extend([0, 1]);
     script.held(&complete(0, 0, 1, 0));
     script.held(&half(1, 1, 1));
@@ -77,7 +77,7 @@ fn most(script: &mut Script) {
     script.station();
     script.unit(1200, &[7; 2048]);
     script.read(0, 16_384, 0);
-    script.set_up(1, &[]);
+    script.command(b'S', 1, 0, 0, 0);
 }
 
 /// Pokes of places and fields that are not there.
@@ -100,7 +100,7 @@ fn pokes_past(script: &mut Script) {
     for a in 8..=12 {
         script.command(b'Q', a, 32, 0, 1);
     }
-    script.command(b'Q', 14, 0, 0, 1);
+    script.command(b'Q', 13, 0, 0, 1);
     script.command(b'Q', 255, 0, 0, 1);
 }
 

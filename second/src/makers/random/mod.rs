@@ -35,7 +35,6 @@ enum Turn {
     HalfFile,
     LongFile,
     FullSlots,
-    OtherEdition,
 }
 
 const TURNS: &[(u64, Turn)] = &[
@@ -54,7 +53,6 @@ const TURNS: &[(u64, Turn)] = &[
     (32, Turn::HalfFile),
     (28, Turn::LongFile),
     (3, Turn::FullSlots),
-    (16, Turn::OtherEdition),
 ];
 
 /// Commands after which an unsound state is set up anew.
@@ -135,7 +133,6 @@ impl Maker {
             Turn::HalfFile => self.half_file(),
             Turn::LongFile => self.long_file(),
             Turn::FullSlots => self.full_slots(),
-            Turn::OtherEdition => self.change_edition(),
         }
         self.carry_out();
         if self.chance.one_in(11) {
@@ -168,16 +165,12 @@ impl Maker {
         self.frame_of(turn);
     }
 
-    /// The next frame of a sender; one in eight has a pointer at which the editions part.
+    /// The next frame of a sender.
     fn frame_of(&mut self, turn: usize) {
         let spacecraft = self.trial.state.spacecraft;
         let Some(sender) = self.senders.get_mut(turn) else {
             return self.script.no_frame();
         };
-        if self.chance.one_in(8) {
-            self.last = stream::idle_frame(&mut self.chance, spacecraft, sender);
-            return self.script.frame(&self.last);
-        }
         self.last = stream::next_frame(&mut self.chance, spacecraft, sender, &self.last);
         self.script.frame(&self.last);
     }
@@ -246,7 +239,6 @@ impl Maker {
     fn facts(&mut self) {
         let slot = match self.chance.below(8) {
             0 => self.slot(|file| !file.is_held()),
-            1 => self.slot(Slot::is_incomplete),
             _ => self.held_slot(),
         };
         self.script.facts(slot);

@@ -2,16 +2,11 @@
 
 use super::Maker;
 use crate::makers::script::Field;
-use crate::model::frame::Edition;
 use crate::model::station::{Slot, State, DESK_SIZE, MOST_BLOCKS};
 
 impl Maker {
-    /// A field of the state changed once or more, judged, then put back, mostly. Now and then there
-    /// is no such field.
+    /// A field of the state changed once or more, judged, then put back, mostly.
     pub fn poke_state(&mut self) {
-        if self.chance.one_in(16) {
-            return self.poke_no_field();
-        }
         let field = self.chance.pick(&FIELDS);
         let index = self.index_of(field);
         let old = value_of(self.state(), field, index);
@@ -30,25 +25,6 @@ impl Maker {
         if !self.chance.one_in(12) {
             self.script.poke(field, index, old);
         }
-    }
-
-    /// The first number behind the fields, or a later one, which does nothing.
-    fn poke_no_field(&mut self) {
-        let field = self.chance.pick(&[14, 14, 15, 255]);
-        let number = self.chance.pick(&[0, 701, 732, 733]);
-        let index = self.chance.below(3) as u16;
-        self.script.command(b'Q', field, index, 0, number);
-        self.judge();
-    }
-
-    /// The other edition: the run goes on under it.
-    pub fn change_edition(&mut self) {
-        let other = match self.state().edition {
-            Edition::B701 => Edition::B732,
-            _ => Edition::B701,
-        };
-        let index = self.chance.number() as u16;
-        self.script.poke(Field::Edition, index, u64::from(other.0));
     }
 
     /// Calls that change nothing: 2, or 11 and 3, unless memory is wrong. Where 2 is to come, the
@@ -113,7 +89,7 @@ impl Maker {
     }
 }
 
-const FIELDS: [Field; 14] = [
+const FIELDS: [Field; 13] = [
     Field::Spacecraft,
     Field::NumberOfChannels,
     Field::Channel,
@@ -127,7 +103,6 @@ const FIELDS: [Field; 14] = [
     Field::SlotLength,
     Field::SlotCount,
     Field::SlotAccepted,
-    Field::Edition,
 ];
 
 /// Numbers on both sides of the lines that the rules draw for a field.
@@ -158,7 +133,6 @@ fn edges(field: Field) -> &'static [u64] {
         ],
         Field::SlotCount => &[0, 16_383, 16_384, 65_535],
         Field::SlotAccepted => &[0, 1, 2, 3, 65_535],
-        Field::Edition => &[0, 700, 701, 702, 731, 732, 733, 65_535, (1 << 16) + 732],
     }
 }
 
@@ -184,6 +158,5 @@ fn value_of(state: &State, field: Field, index: u16) -> u64 {
         Field::SlotLength => slot.length,
         Field::SlotCount => u64::from(slot.last_count),
         Field::SlotAccepted => u64::from(slot.accepted),
-        Field::Edition => u64::from(state.edition.0),
     }
 }

@@ -3,7 +3,6 @@
 use super::Maker;
 use crate::makers::sender::{Sender, MANY_FILES};
 use crate::makers::stream;
-use crate::model::frame::Edition;
 use crate::model::station::DESK_SIZE;
 use crate::model::transport::BLOCK_SIZE;
 
@@ -24,32 +23,15 @@ impl Maker {
         let channels = self.channels();
         let any = self.chance.number() as u8;
         let spacecraft = self.chance.pick(&[0, 1, 1, 195, 255, any]);
-        let edition = self.edition();
         self.script
             .lend(DESK_SIZE * channels.len(), BLOCK_SIZE * blocks);
-        self.script.set_up_under(edition, spacecraft, &channels);
+        self.script.set_up(spacecraft, &channels);
         self.carry_out();
         let chance = &mut self.chance;
         self.senders = channels
             .iter()
             .map(|&channel| Sender::new(channel, stream::first_counter(chance), MANY_FILES))
             .collect();
-    }
-
-    /// One of the two editions, now and then with something above its 16 bits.
-    fn edition(&mut self) -> u32 {
-        let edition = self.chance.pick(&[Edition::B701, Edition::B732]);
-        let above = self.chance.number() as u32;
-        let above = self.chance.weighted(&[(7, 0), (1, 1), (1, above)]);
-        above << 16 | u32::from(edition.0)
-    }
-
-    /// A number that is no edition, beside one or far away.
-    fn no_edition(&mut self) -> u32 {
-        let any = self.chance.number() as u16;
-        let numbers = [0, 189, 220, 700, 702, 731, 733, 65_535, any];
-        let above = self.chance.pick(&[0, 0, 1, 701]);
-        above << 16 | u32::from(self.chance.pick(&numbers))
     }
 
     /// 1 to 8 distinct channels, low ones and few more often than not.
@@ -78,12 +60,8 @@ impl Maker {
         }
         let lent = self.chance.pick(&[desks, DESK_SIZE * channels.len(), 1]);
         let store = self.chance.pick(&[store, 0, 1, BLOCK_SIZE - 1, BLOCK_SIZE]);
-        let edition = match self.chance.one_in(2) {
-            true => self.no_edition(),
-            false => self.edition(),
-        };
         self.script.lend(lent, store);
-        self.script.set_up_under(edition, 1, &channels);
+        self.script.set_up(1, &channels);
         self.calls();
     }
 }

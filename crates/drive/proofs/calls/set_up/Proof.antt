@@ -5,9 +5,6 @@ use Rattle.drive.proofs.Outcomes.{set-up-done, set-up-answer}
 use Rattle.drive.proofs.calls.set_up.Statement.{statement}
 use Rattle.drive.proofs.calls.set_up.Tie as tie
 
-cast-t14 : tie.Need-overflow-cast-t14
-cast-t14 c = search rules
-
 sub-set-up : tie.Need-overflow-sub-set-up
 sub-set-up c = search rules
 
@@ -40,16 +37,15 @@ same-length-2 c = search rules
 
 returns : tie.Need-returns
 returns c =
-    let a = c.before.before.before.before.before.before.before.before.before.before.before.before.before.before.before.args in
+    let a = c.before.before.before.before.before.before.before.before.before.before.before.before.before.before.args in
     let e = c.before.before.before.before.before.before.before.set-up.ensures in
     let line = c.before.before.answer-line.ensures in
-    (set-up-done a.x a.w _ _ _ e (omega arith), (omega (arith, line.0), rw (set-up-answer a.x a.w _ _ _ e (omega arith)) at line.1))
+    (set-up-done a.x a.w _ _ _ e, (omega (arith, line.0), rw (set-up-answer a.x a.w _ _ _ e) at line.1))
 
 pub set-up-spec : {M : Type 1} → statement M
 set-up-spec =
     tie.close
     (tie.spec
-    cast-t14
     sub-set-up
     part-set-up-start
     part-set-up-end
