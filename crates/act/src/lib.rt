@@ -2,6 +2,8 @@
 //
 // Promises: what is done by the decision (`judge`, specs/Ruling.antt) is what the paper says of the packet, judged (judge, specs/Judge.antt), on
 // the state, the store, and the event list behind the events already there.
+#![tactic(auto)]
+
 ghost use Rattle.std.specs.Prelude.{◌≡◌, false, [], ◌∷◌, suc, ◌+◌, ◌*◌, ◌≤◌, ◌<◌, eqb, length, get_or, set, take};
 ghost use Rattle.octets.specs.Choice.{if◌then◌else◌};
 ghost use Rattle.octets.specs.Buffer.{put};
@@ -23,7 +25,7 @@ use state::{Head, Slot, Station};
 use transport::Transport;
 
 // The slots afterwards, and how many events the list has.
-#[derive(Drop)]
+#[derive(Clone, Copy)]
 pub struct Told {
     pub slots: [Slot; Station::SLOTS],
     pub events: usize,

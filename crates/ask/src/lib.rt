@@ -2,6 +2,8 @@
 //
 // Each question judges what it is lent, so that none asks anything of its caller. Promises: any octets are answered, by an equation over them (catalogue
 // specs/Asking.antt).
+#![tactic(auto)]
+
 ghost use Rattle.std.specs.Prelude.{◌≡◌, ◌+◌, ◌≤◌, length};
 ghost use Rattle.sections.specs.Sections.{values};
 ghost use Rattle.catalogue.specs.Catalogue.{file_widths, image_widths, channel_widths};

@@ -2,6 +2,8 @@
 //
 // Promises: the N lowest free blocks go to the file, in rising order, all its blocks become free again, and no other entry of the table
 // changes. What that means for a state, and that it stays sound, is proved on the definitions (room proofs/Keeps.antt).
+#![tactic(auto)]
+
 ghost use Rattle.std.specs.Prelude.{◌≡◌, ◌≤◌, ◌<◌, length, get_or, take, eqb};
 ghost use Rattle.octets.specs.Choice.{if◌then◌else◌};
 ghost use Rattle.state.specs.Slots.{station_of};

@@ -2,6 +2,8 @@
 //
 // Promises: all that comes of it is one definition, walked (zone specs/Walk.antt). The held octets and the zone are one stretch of octets there;
 // here the carried packet is put together on its desk and the zone is read where it lies.
+#![tactic(auto)]
+
 ghost use Rattle.std.specs.Prelude.{◌≡◌};
 ghost use Rattle.state.specs.Slots.{station_of};
 ghost use Rattle.state.specs.Sound.{DesksSound};
@@ -29,7 +31,7 @@ fn join(a: Accepted, held: usize, zone: &[u8], desks: &mut [u8]) -> Sequel
 }
 
 // Where a frame is read first: at a place of its zone, with so many events told, or at the packet on its desk, which has this size.
-#[derive(Drop)]
+#[derive(Clone, Copy)]
 enum Opening {
     Reads(usize, usize),
     Carries(usize),

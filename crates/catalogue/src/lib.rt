@@ -3,6 +3,8 @@
 // The stored form is the only form: octets in a lent buffer, and their number. Owns what a catalogue is and says (specs/Catalogue.antt), refusals 30,
 // 31 and 34, and the types of what is handed in and out; `ask` answers questions to a catalogue, `enter` enters files. Promises: the sections of any
 // octets are found exactly if they are what is written for some list of files (specs/Promises.antt).
+#![tactic(auto)]
+
 ghost use Rattle.std.specs.Prelude.{◌≡◌, true, map, ℕ, ◌+◌, ◌*◌, ◌≤◌, length, drop, get_or, replicate};
 ghost use Rattle.octets.specs.Each.{each};
 ghost use Rattle.sections.specs.Sections.{entries, whole};
@@ -14,7 +16,7 @@ use frame::Channel;
 use packet::Application;
 
 // What an image structure record and a segment record say of a file.
-#[derive(Drop)]
+#[derive(Clone, Copy)]
 pub struct Picture {
     pub columns: u16,
     pub lines: u16,
@@ -22,14 +24,14 @@ pub struct Picture {
     pub total: u8,
 }
 
-#[derive(Drop)]
+#[derive(Clone, Copy)]
 pub enum Image {
     Absent,
     There(Picture),
 }
 
 // A file of the list: what is known of it, the file type, and what its header says of its image.
-#[derive(Drop)]
+#[derive(Clone, Copy)]
 pub struct Entry {
     pub facts: Facts,
     pub kind: u8,
@@ -50,60 +52,60 @@ impl Entry {
 }
 
 // What comes of a call that writes: a number of the paper, or the octets that the catalogue now has.
-#[derive(Drop)]
+#[derive(Clone, Copy)]
 pub enum Entered {
     Refused(u8),
     Now(usize),
 }
 
 // How many entries each section has.
-#[derive(Drop)]
+#[derive(Clone, Copy)]
 pub struct Sizes {
     pub files: usize,
     pub images: usize,
     pub channels: usize,
 }
 
-#[derive(Drop)]
+#[derive(Clone, Copy)]
 pub enum CatalogueRead {
     Refused(u8),
     Read(Sizes),
 }
 
 // An entry of each section, and what comes of asking for one.
-#[derive(Drop)]
+#[derive(Clone, Copy)]
 pub struct FileEntry {
     pub facts: Facts,
     pub kind: u8,
 }
 
-#[derive(Drop)]
+#[derive(Clone, Copy)]
 pub enum FileAsked {
     Refused(u8),
     Nothing,
     There(FileEntry),
 }
 
-#[derive(Drop)]
+#[derive(Clone, Copy)]
 pub struct ImageEntry {
     pub index: u16,
     pub picture: Picture,
 }
 
-#[derive(Drop)]
+#[derive(Clone, Copy)]
 pub enum ImageAsked {
     Refused(u8),
     Nothing,
     There(ImageEntry),
 }
 
-#[derive(Drop)]
+#[derive(Clone, Copy)]
 pub struct ChannelEntry {
     pub channel: Channel,
     pub files: u16,
 }
 
-#[derive(Drop)]
+#[derive(Clone, Copy)]
 pub enum ChannelAsked {
     Refused(u8),
     Nothing,
@@ -111,7 +113,7 @@ pub enum ChannelAsked {
 }
 
 // Where the sections of a catalogue lie, and how many entries each has.
-#[derive(Drop)]
+#[derive(Clone, Copy)]
 pub struct Places {
     pub files: usize,
     pub second: usize,
@@ -120,7 +122,7 @@ pub struct Places {
     pub channels: usize,
 }
 
-#[derive(Drop)]
+#[derive(Clone, Copy)]
 pub enum Found {
     At(Places),
     Nowhere,

@@ -1,6 +1,8 @@
 // The channels that a station can watch.
 //
 // Promises: a list of channels passes exactly if it is one of 1 to 8 distinct channels 0 to 62 (state specs/Decision.antt).
+#![tactic(auto)]
+
 ghost use Rattle.std.specs.Prelude.{◌≡◌, ◌≤◌, length, drop};
 ghost use Rattle.state.specs.Decision.{among as among_of, good_channels};
 

@@ -12,7 +12,7 @@ use script::{Command, Payload};
 use stream::Hunter;
 
 // What a command leaves: the hunter, and where its text ends.
-#[derive(Drop)]
+#[derive(Clone, Copy)]
 pub struct After {
     pub hunter: Hunter,
     pub end: usize,

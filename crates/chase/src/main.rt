@@ -3,6 +3,8 @@
 // Owns the memory: a hunter of which any field can be set, and a buffer of which any first part is lent. Promises: the program is safe and ends; a
 // command changes hunter and buffer as specs/Calls.antt has it, by the stream's own definitions, and its text is that of what came of it; the
 // hunter, the buffer and the two numbers of the last line are those of the whole script (specs/Run.antt).
+#![tactic(auto)]
+
 mod calls;
 
 ghost use Rattle.std.specs.Prelude.{◌≡◌, ◌≤◌, length, take, drop};
@@ -52,7 +54,7 @@ fn obey(h: Hunter, x: Command, portion: &[u8], buffer: &mut [u8], out: &mut [u8]
 }
 
 // What a run leaves: the hunter, how many commands were carried out, and how many octets of the script were not used.
-#[derive(Drop)]
+#[derive(Clone, Copy)]
 pub struct Ended {
     pub hunter: Hunter,
     pub commands: u64,

@@ -8,7 +8,7 @@ ghost use Rattle.clerk.specs.Printed.{said_line, Says};
 use catalogue::{CatalogueRead, ChannelAsked, Entered, FileAsked, ImageAsked};
 
 // The numbers of a line: so many of these. No line has more than six.
-#[derive(Drop)]
+#[derive(Clone, Copy)]
 pub struct Said {
     pub numbers: [u64; 6],
     pub count: usize,

@@ -16,14 +16,14 @@ use packet::Application;
 use script::{Command, Payload};
 
 // What a command leaves: the two numbers, and what it says.
-#[derive(Drop)]
+#[derive(Clone, Copy)]
 pub struct Done {
     pub held: Held,
     pub said: Said,
 }
 
 // The same when its text is written: the two numbers, and where the text ends.
-#[derive(Drop)]
+#[derive(Clone, Copy)]
 pub struct After {
     pub held: Held,
     pub end: usize,

@@ -3,6 +3,8 @@
 // Owns the memory: a buffer of which any first part is lent, and how many octets the catalogue in it is said to have. Promises: the program is safe
 // and ends; a command changes the memory as specs/Calls.antt has it, by the catalogue's own definitions, and its text is that of what came of it
 // (specs/Printed.antt); the memory and the two numbers of the last line are those of the whole script (specs/Run.antt).
+#![tactic(auto)]
+
 mod answers;
 mod calls;
 
@@ -24,7 +26,7 @@ pub const BUFFER: usize = 32768;
 const TEXT: usize = 128;
 
 // How many octets of the buffer are lent to a call, and how many the catalogue is said to have.
-#[derive(Drop)]
+#[derive(Clone, Copy)]
 pub struct Held {
     pub lent: usize,
     pub used: usize,
@@ -58,7 +60,7 @@ fn obey(h: Held, x: Command, payload: &[u8], buffer: &mut [u8], out: &mut [u8]) 
 }
 
 // What a run leaves: the two numbers, how many commands were carried out, and how many octets of the script were not used.
-#[derive(Drop)]
+#[derive(Clone, Copy)]
 pub struct Ended {
     pub held: Held,
     pub commands: u64,

@@ -4,6 +4,8 @@
 // parts is running over them joined, and data followed by its own check leaves register 0 (proofs/Laws.antt). Inside, many octets go in fours,
 // by four tables of 256 registers: every entry is what the rule gives (`table`, by one computed test), and with them four octets at once are
 // the same as one after the other (proofs/Parts.antt).
+#![tactic(auto)]
+
 mod tables;
 
 ghost use Rattle.std.specs.Prelude.{◌≡◌, ◌∷◌, ℕ, ◌%◌, ◌<◌, length, replicate};

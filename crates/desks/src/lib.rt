@@ -2,6 +2,8 @@
 //
 // Promises: each of the two is true exactly if it holds of the desks of the channels watched (state specs/Decision.antt), and the octets are looked
 // at where they lie.
+#![tactic(auto)]
+
 ghost use Rattle.std.specs.Prelude.{◌≡◌, true, ◌*◌, ◌≤◌, length, take};
 ghost use Rattle.octets.specs.Each.{each};
 ghost use Rattle.state.specs.Decision.{desk_holds, octets_held, desks_held};

@@ -51,7 +51,7 @@ pub fn let_file_go(w: Run, x: Command, out: &mut [u8]) -> Run
 }
 
 // The state after a frame, and where its text ends.
-#[derive(Drop)]
+#[derive(Clone, Copy)]
 pub struct Taken {
     pub station: Station,
     pub end: usize,

@@ -2,6 +2,8 @@
 //
 // Promises: a command changes state, desks and store as specs/Calls.antt has it, by the station's own definitions, and the text that it leaves
 // is that of what came of it (specs/Printed.antt).
+#![tactic(auto)]
+
 mod calls;
 
 ghost use Rattle.std.specs.Prelude.{◌≡◌, ◌≤◌, length};

@@ -2,6 +2,8 @@
 //
 // Everything is judged before the first octet is written (`grow` writes), so that a refused call changes nothing. Promises: each call is one equation
 // between its answer with all that is in the buffer at its end, and a definition of what came in (catalogue specs/Entering.antt).
+#![tactic(auto)]
+
 ghost use Rattle.std.specs.Prelude.{◌≡◌, true, [], ◌∷◌, ◌++◌, map, ◌+◌, ◌*◌, ◌≤◌, ◌<◌, length, drop, replicate};
 ghost use Rattle.octets.specs.Each.{each};
 ghost use Rattle.sections.specs.Sections.{entries};
@@ -44,7 +46,7 @@ fn good_facts(e: Entry) -> bool
 }
 
 // What is decided before the new octets are counted: a refusal, or where the sections of the catalogue lie.
-#[derive(Drop)]
+#[derive(Clone, Copy)]
 pub enum Ruling {
     Refused(u8),
     Goes(Places),

@@ -1,11 +1,13 @@
 // The event list: three numbers to an event.
 //
 // Owns what an event is and how the list grows. Promises: one event more is written behind those that the list has, and nothing else changes.
+#![tactic(auto)]
+
 ghost use Rattle.std.specs.Prelude.{◌≡◌, [], ◌∷◌, ◌+◌, ◌*◌, ◌≤◌, length};
 ghost use Rattle.octets.specs.Buffer.{put};
 
 // An event in the list: kind, application, slot.
-#[derive(Drop)]
+#[derive(Clone, Copy)]
 pub struct Event;
 
 impl Event {

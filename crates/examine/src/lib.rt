@@ -2,6 +2,8 @@
 //
 // Promises: any octets of any number are examined, and the answer is the lowest of refusals 3 to 9 that applies, or where to go on reading
 // (frame specs/Refusals.antt).
+#![tactic(auto)]
+
 ghost use Rattle.std.specs.Prelude.{◌≡◌, ◌≤◌, length, take};
 ghost use Rattle.frame.specs.Header.{marker, starts_with};
 ghost use Rattle.frame.specs.Refusals.{examined_header, examined, plain_after};

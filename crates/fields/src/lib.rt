@@ -3,6 +3,8 @@
 //
 // Promises: any octets are answered; the answer is an equation over the header's octets (records specs/Reader.antt), and says the paper's
 // number and values (records specs/Answers.antt).
+#![tactic(auto)]
+
 ghost use Rattle.std.specs.Prelude.{◌≡◌, ◌+◌, ◌≤◌, length};
 ghost use Rattle.records.specs.Table.{fixed_types};
 ghost use Rattle.records.specs.Reader.{Fine, StandsWhole, primary_of, image_at, navigation_at, name_at, time_at, segment_at, image_if, navigation_if, name_if, time_if, segment_if, fields_of, refused_header, read_header};

@@ -2,6 +2,8 @@
 //
 // A slot is asked for first, and what is known of it decides. Each contract is one equation between everything that comes out and a
 // definition of the station's (station specs/Files.antt).
+#![tactic(auto)]
+
 ghost use Rattle.std.specs.Prelude.{◌≡◌, true, ◌≤◌, ◌<◌};
 ghost use Rattle.state.specs.Slots.{slot_at, complete};
 ghost use Rattle.state.specs.Decision.{is_sound};

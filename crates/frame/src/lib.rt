@@ -3,15 +3,17 @@
 // Owns the frame's sizes and marker, the kinds Channel and Counter, the header, the meaning of the pointer, what refusals 3 to 9 mean, and the
 // laws of them; the refusals themselves are found by `examine`. Promises: header fields stand at the bit positions of the paper; a pointer means
 // what it says, and a channel's desk is its place among those watched.
+#![tactic(auto)]
+
 ghost use Rattle.std.specs.Prelude.{◌≡◌, ◌≤◌, length, take};
 ghost use Rattle.frame.specs.Kinds.{checked_channel, checked_counter, next_counter, counter_follows, desk_of};
 ghost use Rattle.frame.specs.Header.{frame_of, Bounded, pointer_meaning};
 
 // A channel number. It cannot stand for an application number, nor the other way round.
-#[derive(Drop)]
+#[derive(Clone, Copy)]
 pub struct Channel(pub u8);
 
-#[derive(Drop)]
+#[derive(Clone, Copy)]
 pub enum CheckedChannel {
     Good(Channel),
     Bad,
@@ -38,10 +40,10 @@ impl Channel {
 }
 
 // A frame counter: the frames of one channel count modulo 2^24.
-#[derive(Drop)]
+#[derive(Clone, Copy)]
 pub struct Counter(pub u32);
 
-#[derive(Drop)]
+#[derive(Clone, Copy)]
 pub enum CheckedCounter {
     Good(Counter),
     Bad,
@@ -76,7 +78,7 @@ impl Counter {
 }
 
 // What the pointer says of the zone: the offset at which the first packet starts, that none starts, or nothing that is allowed.
-#[derive(Drop)]
+#[derive(Clone, Copy)]
 pub enum Pointer {
     Offset(u16),
     NoStart,
@@ -84,7 +86,7 @@ pub enum Pointer {
 }
 
 // What a frame's header says.
-#[derive(Drop)]
+#[derive(Clone, Copy)]
 pub struct Frame {
     pub version: u8,
     pub spacecraft: u8,
@@ -150,7 +152,7 @@ pub fn meaning(pointer: u16) -> Pointer
 }
 
 // Where a channel stands among those watched.
-#[derive(Drop)]
+#[derive(Clone, Copy)]
 pub enum Watch {
     Desk(usize),
     NotWatched,
@@ -174,14 +176,14 @@ pub fn desk_of(watched: [Channel; Channel::MOST], n: u8, channel: Channel) -> Wa
 }
 
 // A frame that is not refused: its desk, its counter and what its pointer says.
-#[derive(Drop)]
+#[derive(Clone, Copy)]
 pub struct Accepted {
     pub desk: usize,
     pub counter: Counter,
     pub pointer: Pointer,
 }
 
-#[derive(Drop)]
+#[derive(Clone, Copy)]
 pub enum Examined {
     Refused(u8),
     Good(Accepted),

@@ -3,6 +3,8 @@
 // The sections are written from the last to the first, each at its new place: nothing is overwritten that is still needed. The channel section is made
 // anew from the counts. Promises: the buffer after it is an equation on the whole buffer (catalogue specs/Entering.antt). `enter`, which calls this, has
 // judged everything before.
+#![tactic(auto)]
+
 ghost use Rattle.std.specs.Prelude.{◌≡◌, [], ◌∷◌, ◌++◌, ℕ, ◌+◌, ◌*◌, ◌≤◌, ◌<◌, length, take, get_or};
 ghost use Rattle.octets.specs.Number.{part, in_octets};
 ghost use Rattle.octets.specs.Buffer.{put};

@@ -2,6 +2,8 @@
 //
 // Promises: any octets are answered; refusals 20 to 26 are tried in the paper's order (records specs/Records.antt), and what is given for a
 // number is the paper's 27, or the record's type, place and length (records specs/Answers.antt).
+#![tactic(auto)]
+
 ghost use Rattle.std.specs.Prelude.{◌≡◌, ◌<◌};
 ghost use Rattle.octets.specs.Reasons.{decided};
 ghost use Rattle.records.specs.Table.{fixed_types};

@@ -2,6 +2,8 @@
 //
 // Owns the answers to the questions `F` and `P` of docs/VECTORS.md. Promises: the text is an equation over what the readers' contracts say
 // (specs/Heads.antt).
+#![tactic(auto)]
+
 ghost use Rattle.std.specs.Prelude.{◌+◌, ◌≤◌, ◌≡◌, ◌++◌, length};
 ghost use Rattle.text.specs.Pieces.{Written, spaced};
 ghost use Rattle.frame.specs.Header.{pointer_meaning};

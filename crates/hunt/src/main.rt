@@ -3,6 +3,8 @@
 //
 // Promises: the program is safe and ends; its line is that of some stream that was hunted through by the stream's own definitions, or the refusal
 // (specs/Said.antt). No contract can say that this stream is the input, nor that what is written is what stands in the buffer.
+#![tactic(auto)]
+
 ghost use Rattle.std.specs.Prelude.{◌≡◌, ◌+◌, ◌*◌, ◌≤◌, length};
 ghost use Rattle.octets.specs.Buffer.{put};
 ghost use Rattle.stream.specs.Feed.{feed as fed_by};
@@ -50,7 +52,7 @@ fn chosen(words: usize, first: &[u8]) -> u8
 }
 
 // What a portion gave: how many frames, and the hunter behind it.
-#[derive(Drop)]
+#[derive(Clone, Copy)]
 pub struct Given {
     frames: u64,
     hunter: Hunter,
@@ -82,7 +84,7 @@ fn feed(h: Hunter, portion: &[u8], unit: &mut [u8]) -> Given
 }
 
 // What was counted of an input: its octets, the frames found, and the octets that wait.
-#[derive(Drop)]
+#[derive(Clone, Copy)]
 pub struct Tally {
     read: u64,
     frames: u64,

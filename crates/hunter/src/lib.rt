@@ -2,6 +2,8 @@
 //
 // Promises: everything that comes out is what the stream's definition says of everything that came in (stream specs/Hunter.antt); any hunter, any
 // portion and any buffer are answered. Nothing is shifted along a buffer: octets go from the portion straight to where they wait or to the frame.
+#![tactic(auto)]
+
 ghost use Rattle.std.specs.Prelude.{◌≡◌};
 ghost use Rattle.stream.specs.Hunter.{is_sound, gave_hunt, hunt_of, hunted};
 ghost use Rattle.hunter.specs.Contract.{spread_of, none_found, filled, Settled, Sliding, Ready};

@@ -4,6 +4,8 @@
 // nothing: a packet that only gives an event moves no state. Promises: the decision is one definition, ruling_of (specs/Ruling.antt), and what
 // is done by it is what the paper says of the packet, judged (specs/Judge.antt; proofs/Rulings.antt). A sound state stays sound
 // (proofs/Keeps.antt), and a packet gives three events at most.
+#![tactic(auto)]
+
 ghost use Rattle.std.specs.Prelude.{◌≡◌, ◌||◌, ◌≤◌, ◌<◌, eqb, length, set};
 ghost use Rattle.packet.specs.Header.{packet_of};
 ghost use Rattle.transport.specs.Shape.{begun_of};
@@ -20,7 +22,7 @@ use state::{Slot, Station};
 use transport::{Begun, Transport};
 
 // Where a file that begins is placed: nowhere, with an event of this kind, or in this slot.
-#[derive(Drop)]
+#[derive(Clone, Copy)]
 pub enum Place {
     Denied(u16),
     Granted(usize, Transport),
@@ -28,7 +30,7 @@ pub enum Place {
 
 // What a packet does to a file: it opens one in a slot; it ends the one in a slot, and another begins; it goes on with the one in a slot;
 // it ends it.
-#[derive(Drop)]
+#[derive(Clone, Copy)]
 pub enum Act {
     Opens(usize, Transport),
     Over(usize, Place),
@@ -37,7 +39,7 @@ pub enum Act {
 }
 
 // What is decided of a packet: it is skipped, it gives an event of this kind and touches no file, or it does something to a file.
-#[derive(Drop)]
+#[derive(Clone, Copy)]
 pub enum Ruling {
     Skips,
     Says(u16),

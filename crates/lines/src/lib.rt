@@ -3,6 +3,8 @@
 //
 // Promises: the buffer after a call is an equation on the whole buffer, and so is the end (specs/Lines.antt). The callers of this crate show
 // that there is room.
+#![tactic(auto)]
+
 ghost use Rattle.std.specs.Prelude.{◌+◌, ◌*◌, ◌≤◌, ◌≡◌, [], ◌∷◌, length, get_or};
 ghost use Rattle.text.specs.Pieces.{Written};
 ghost use Rattle.lines.specs.Lines.{end_line, event_line, event_lines, answer_line, frame_lines, read_line, report, let_go_line, told_line};

@@ -3,13 +3,15 @@
 // Promises: the table of 255 octets follows the paper's rule on bits (`Noise::table`, by one computed test), and the sequence repeats after
 // 255 octets, so octet i is entry i modulo 255 for every i (proofs/Rule.antt). The mixing is an equation on the whole buffer, and undoes
 // itself (proofs/Mixing.antt).
+#![tactic(auto)]
+
 ghost use Rattle.std.specs.Prelude.{◌≡◌, ◌+◌, ◌≤◌, length};
 ghost use Rattle.octets.specs.Number.{part};
 ghost use Rattle.octets.specs.Buffer.{put};
 ghost use Rattle.noise.specs.Noise.{noise_at, period, xored, mixed};
 
 // The sequence: its sizes and its table.
-#[derive(Drop)]
+#[derive(Clone, Copy)]
 pub struct Noise;
 
 impl Noise {

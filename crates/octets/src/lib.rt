@@ -2,6 +2,8 @@
 //
 // Promises: a number read is the number that the octets stand for, at every width by one law; a number stored, a copy and a blank are an
 // equation on the whole buffer, so that nothing outside the stretch named is touched. The callers of this crate show that the stretch is there.
+#![tactic(auto)]
+
 ghost use Rattle.std.specs.Prelude.{◌≡◌, min, ◌+◌, ◌*◌, ◌^◌, ◌≤◌, ◌<◌, length, replicate};
 ghost use Rattle.octets.specs.Number.{number_at, in_octets, signed, rounded_up};
 ghost use Rattle.octets.specs.Buffer.{put};

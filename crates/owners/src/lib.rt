@@ -2,6 +2,8 @@
 //
 // Owns the pass over the blocks' owners. Promises: each slot's count is the number of its blocks, and the owners pass exactly if each is a slot or
 // none (proofs/Counts.antt); every block is looked at once.
+#![tactic(auto)]
+
 ghost use Rattle.std.specs.Prelude.{◌≡◌, ◌+◌, ◌≤◌, ◌<◌, length, take};
 ghost use Rattle.octets.specs.Each.{each};
 ghost use Rattle.octets.specs.Number.{part};
@@ -92,7 +94,7 @@ fn slots_part(tally: [u16; TALLIES]) -> [u16; Station::SLOTS]
 }
 
 // How many blocks each slot owns, and whether each block's owner is a slot or none.
-#[derive(Drop)]
+#[derive(Clone, Copy)]
 pub struct Owners {
     pub good: bool,
     pub counts: [u16; Station::SLOTS],

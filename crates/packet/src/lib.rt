@@ -1,22 +1,24 @@
 // The packet: the kinds Application and Count, the six octets of its header, and when a header is bad.
 //
 // Promises: header fields stand at the bit positions of the paper; any octets of any number are answered: too few, bad, or good.
+#![tactic(auto)]
+
 ghost use Rattle.std.specs.Prelude.{◌≡◌, ◌≤◌, length};
 ghost use Rattle.packet.specs.Kinds.{checked_application, kind_of, checked_count, next_count, count_follows};
 ghost use Rattle.packet.specs.Header.{packet_of, Bounded, size_of, bad, look_of};
 
 // An application number. It cannot stand for a channel number, nor the other way round.
-#[derive(Drop)]
+#[derive(Clone, Copy)]
 pub struct Application(pub u16);
 
-#[derive(Drop)]
+#[derive(Clone, Copy)]
 pub enum CheckedApplication {
     Good(Application),
     Bad,
 }
 
 // What an application's packets are for.
-#[derive(Drop)]
+#[derive(Clone, Copy)]
 pub enum Kind {
     File,
     Other,
@@ -57,10 +59,10 @@ impl Application {
 }
 
 // A packet count: the packets of one application count modulo 16,384.
-#[derive(Drop)]
+#[derive(Clone, Copy)]
 pub struct Count(pub u16);
 
-#[derive(Drop)]
+#[derive(Clone, Copy)]
 pub enum CheckedCount {
     Good(Count),
     Bad,
@@ -95,7 +97,7 @@ impl Count {
 }
 
 // What a packet's header says.
-#[derive(Drop)]
+#[derive(Clone, Copy)]
 pub struct Packet {
     pub version: u8,
     pub application: Application,
@@ -170,7 +172,7 @@ impl Packet {
 }
 
 // What stands at the start of some octets.
-#[derive(Drop)]
+#[derive(Clone, Copy)]
 pub enum Look {
     Short,
     Bad,

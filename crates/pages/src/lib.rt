@@ -1,6 +1,8 @@
 // Pages: the octets in the blocks of a file, read as one row.
 //
 // Promises: a buffer is filled with the octets from a place on of the blocks joined (room specs/File.antt); nothing else is written.
+#![tactic(auto)]
+
 ghost use Rattle.std.specs.Prelude.{◌≡◌, ◌+◌, ◌*◌, ◌≤◌, length, take};
 ghost use Rattle.octets.specs.Number.{part};
 ghost use Rattle.state.specs.Blocks.{numbers_of};

@@ -2,6 +2,8 @@
 //
 // Owns the memory: the octets read, and all the text that the longest catalogue has. Promises: the program is safe and ends; the text is one equation
 // over the octets (specs/Printed.antt). No contract can say that these are the input, nor that what is written is the text.
+#![tactic(auto)]
+
 ghost use Rattle.std.specs.Prelude.{◌≡◌, ◌+◌, ◌*◌, ◌≤◌, ◌<◌, length, take, drop};
 ghost use Rattle.text.specs.Pieces.{Written};
 ghost use Rattle.catalogue.specs.Catalogue.{images_of, channels_of, listed};

@@ -2,6 +2,8 @@
 //
 // Owns the answers to the questions `H` and `R` of docs/VECTORS.md. Promises: the text is an equation over what the readers' contracts say
 // (specs/Readout.antt).
+#![tactic(auto)]
+
 ghost use Rattle.std.specs.Prelude.{◌+◌, ◌≤◌, ◌≡◌, ◌++◌, nat_abs, length, drop};
 ghost use Rattle.octets.specs.Number.{number_at};
 ghost use Rattle.text.specs.Pieces.{Written, ascii, in_hex};

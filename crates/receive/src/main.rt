@@ -3,6 +3,8 @@
 //
 // Owns the memory of a station: spacecraft 1, channels 0 to 3, seven blocks. Promises: the program is safe and ends; its station goes from
 // frame to frame as the station's contract has it; what it prints of a frame is the text of what the station's contract says comes of it. A trailing part of a frame is counted, and no frame.
+#![tactic(auto)]
+
 ghost use Rattle.std.specs.Prelude.{◌≤◌, ◌≡◌, length};
 ghost use Rattle.station.specs.Frame.{framed};
 ghost use Rattle.octets.specs.Buffer.{put};

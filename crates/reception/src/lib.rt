@@ -1,6 +1,8 @@
 // The frame call: a frame refused, or its zone walked under its channel and desk.
 //
 // Promises: everything that comes out is what the station's definition says of everything that came in (station specs/Frame.antt).
+#![tactic(auto)]
+
 ghost use Rattle.std.specs.Prelude.{◌≡◌, ◌&&◌, ◌<◌, leb, length};
 ghost use Rattle.frame.specs.Header.{derandomised};
 ghost use Rattle.state.specs.Slots.{station_of};
@@ -20,7 +22,7 @@ use state::{Desk, Head, Slot, Station};
 const LEAST_LIST: usize = Event::NUMBERS * Event::MOST;
 
 // What comes of a frame: a number of the paper, the events, and the state.
-#[derive(Drop)]
+#[derive(Clone, Copy)]
 pub struct Framed {
     pub answer: u8,
     pub events: usize,
@@ -70,7 +72,7 @@ fn admit(
 }
 
 // What comes of a frame: its answer and events, its desk with what that keeps now, and the slots.
-#[derive(Drop)]
+#[derive(Clone, Copy)]
 struct Outcome {
     answer: u8,
     events: usize,

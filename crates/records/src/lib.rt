@@ -3,12 +3,14 @@
 // Owns the table of record types whose length is fixed, what refusals 20 to 27 mean, and the types and laws of what is read; a header is judged
 // and walked by `header`, and its fields are read by `fields`. Promises: the record at a place, whether 23 refuses it and where the next one
 // begins are those of the list of the header's records (specs/Records.antt); nothing is added that could wrap, whatever lengths the octets claim.
+#![tactic(auto)]
+
 ghost use Rattle.std.specs.Prelude.{◌≡◌, ◌≤◌, ◌<◌, length};
 ghost use Rattle.records.specs.Table.{fixed_types, length_of};
 ghost use Rattle.records.specs.Records.{record_at, is_cut, after};
 
 // A record: its type, its place in the header, and its length.
-#[derive(Drop)]
+#[derive(Clone, Copy)]
 pub struct Record {
     pub kind: u8,
     pub place: usize,
@@ -20,7 +22,7 @@ impl Record {
     pub const LEAST: usize = 3;
 }
 
-#[derive(Drop)]
+#[derive(Clone, Copy)]
 pub struct Primary {
     pub filetype: u8,
     pub length: u32,
@@ -37,7 +39,7 @@ impl Primary {
     pub const BITS_AT: usize = 8;
 }
 
-#[derive(Drop)]
+#[derive(Clone, Copy)]
 pub struct Image {
     pub bits: u8,
     pub columns: u16,
@@ -52,7 +54,7 @@ impl Image {
 }
 
 // Its name stands beside it, in the answer.
-#[derive(Drop)]
+#[derive(Clone, Copy)]
 pub struct Navigation {
     pub cfac: i32,
     pub lfac: i32,
@@ -68,7 +70,7 @@ impl Navigation {
     pub const NAME: usize = 32;
 }
 
-#[derive(Drop)]
+#[derive(Clone, Copy)]
 pub struct Time {
     pub pfield: u8,
     pub days: u16,
@@ -81,7 +83,7 @@ impl Time {
     pub const SIZE: usize = 10;
 }
 
-#[derive(Drop)]
+#[derive(Clone, Copy)]
 pub struct Segment {
     pub number: u8,
     pub total: u8,
@@ -94,32 +96,32 @@ impl Segment {
     pub const SIZE: usize = 7;
 }
 
-#[derive(Drop)]
+#[derive(Clone, Copy)]
 pub enum ImageStructure {
     There(Image),
     Absent,
 }
 
-#[derive(Drop)]
+#[derive(Clone, Copy)]
 pub enum ImageNavigation {
     There(Navigation),
     Absent,
 }
 
-#[derive(Drop)]
+#[derive(Clone, Copy)]
 pub enum TimeStamp {
     There(Time),
     Absent,
 }
 
-#[derive(Drop)]
+#[derive(Clone, Copy)]
 pub enum ImageSegment {
     There(Segment),
     Absent,
 }
 
 // The fixed fields, or their absence.
-#[derive(Drop)]
+#[derive(Clone, Copy)]
 pub struct Header {
     pub primary: Primary,
     pub image: ImageStructure,
@@ -128,42 +130,42 @@ pub struct Header {
     pub segment: ImageSegment,
 }
 
-#[derive(Drop)]
+#[derive(Clone, Copy)]
 pub enum HeaderRead {
     Refused(u8),
     Read(Header),
 }
 
 // What comes of a header, with the name in its navigation record: zeros where there is none.
-#[derive(Drop)]
+#[derive(Clone, Copy)]
 pub struct HeaderAnswer {
     pub read: HeaderRead,
     pub name: [u8; Navigation::NAME],
 }
 
 // What comes of asking for a record.
-#[derive(Drop)]
+#[derive(Clone, Copy)]
 pub enum RecordAnswer {
     Refused(u8),
     Found(Record),
 }
 
 // The length of the records of a type.
-#[derive(Drop)]
+#[derive(Clone, Copy)]
 pub enum TypeLength {
     Fixed(usize),
     Free,
 }
 
 // What a test found: a number of the paper, or nothing to refuse.
-#[derive(Drop)]
+#[derive(Clone, Copy)]
 pub enum Judged {
     Good,
     Refused(u8),
 }
 
 // Where the first record of a type stands.
-#[derive(Drop)]
+#[derive(Clone, Copy)]
 pub enum Stands {
     At(usize),
     Nowhere,

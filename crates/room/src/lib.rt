@@ -3,6 +3,8 @@
 //
 // Promises: the lowest slot of each kind is found, and taking and giving back blocks keep the state sound and touch no other file's places
 // (proofs/Keeps.antt).
+#![tactic(auto)]
+
 ghost use Rattle.std.specs.Prelude.{◌≡◌};
 ghost use Rattle.state.specs.Blocks.{needs as needs_of};
 ghost use Rattle.room.specs.Find.{free_from, file_from};
@@ -11,7 +13,7 @@ use frame::Channel;
 use packet::Application;
 use state::{Slot, Station};
 
-#[derive(Drop)]
+#[derive(Clone, Copy)]
 pub enum Found {
     At(usize),
     Nothing,

@@ -2,6 +2,8 @@
 //
 // Owns Command, what comes next of a script that is read whole, and Run. Promises: a command is read as the page has it, limits too; M, P and Q change what is held and the two buffers as
 // specs/Memory.antt has it, and any octet and any field of the state can be set.
+#![tactic(auto)]
+
 mod pokes;
 
 ghost use Rattle.std.specs.Prelude.{◌≡◌, ◌≤◌, length};
@@ -11,7 +13,7 @@ ghost use Rattle.script.specs.Follow.{next_by};
 pub use pokes::poke;
 use state::Station;
 
-#[derive(Drop)]
+#[derive(Clone, Copy)]
 pub struct Command {
     pub letter: u8,
     pub a: u8,
@@ -22,7 +24,7 @@ pub struct Command {
 
 // What a trial holds beside its buffers: the state, how many octets of the desks and of the store are lent to a call, and where the text of the
 // last command ends.
-#[derive(Drop)]
+#[derive(Clone, Copy)]
 pub struct Run {
     pub station: Station,
     pub desks: usize,
@@ -31,14 +33,14 @@ pub struct Run {
 }
 
 // How many octets follow a command, if the run goes on with it.
-#[derive(Drop)]
+#[derive(Clone, Copy)]
 pub enum Payload {
     Octets(usize),
     Refused,
 }
 
 // What comes next of a script that is read whole: a command with so many octets of payload behind it, or nothing that is carried out.
-#[derive(Drop)]
+#[derive(Clone, Copy)]
 pub enum Next {
     Goes(Command, usize),
     Ends,

@@ -4,6 +4,8 @@
 // Owns the form of a section (specs/Sections.antt). Promises: some octets are told to be just so many sections exactly if they are, whatever counts
 // they claim, and nothing is added that could wrap; what is stored is an equation on the whole buffer. Everything is proved once for all widths. The
 // callers of this crate show that there is room.
+#![tactic(auto)]
+
 ghost use Rattle.std.specs.Prelude.{◌≡◌, ◌++◌, ◌+◌, ◌*◌, ◌≤◌, leb, length, drop};
 ghost use Rattle.octets.specs.Number.{part, number_at, in_octets};
 ghost use Rattle.octets.specs.Buffer.{put};

@@ -1,6 +1,8 @@
 // Everything of a station as lines of text: the checks of the octets lent, the slots and the channels. It asks nothing of the state.
 //
 // Promises: the text that stands in the lent buffer is an equation on the whole buffer, each line in its place (specs/Shown.antt).
+#![tactic(auto)]
+
 ghost use Rattle.std.specs.Prelude.{◌≡◌, ◌+◌, ◌*◌, ◌≤◌, ◌<◌, length, take};
 ghost use Rattle.octets.specs.Choice.{if◌then◌else◌};
 ghost use Rattle.text.specs.Pieces.{Written};

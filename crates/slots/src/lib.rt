@@ -2,6 +2,8 @@
 //
 // Promises: true exactly if each slot, with the number of its blocks, is sound for the channels that are watched, and no two incomplete files are
 // of one pair (state specs/Decision.antt). The callers of this crate bring the number of each slot's blocks.
+#![tactic(auto)]
+
 ghost use Rattle.std.specs.Prelude.{◌≡◌, true, ◌&&◌};
 ghost use Rattle.state.specs.Slots.{held, need_of};
 ghost use Rattle.state.specs.Decision.{free_sound, slot_sound, slots_sound, no_twins};

@@ -2,6 +2,8 @@
 //
 // Promises: true exactly if what the paper's list says of the state alone holds (state specs/Sound.antt, specs/Decision.antt). The channels, the owners,
 // the slots and the desks are decided in crates of their own; the octets of the desks, which are no part of the state, in `desks`.
+#![tactic(auto)]
+
 ghost use Rattle.std.specs.Prelude.{◌≡◌, map, length, take};
 ghost use Rattle.state.specs.Slots.{number, station_of};
 ghost use Rattle.state.specs.Decision.{set_up_sound, is_sound};

@@ -2,6 +2,8 @@
 //
 // Owns Station, Slot and Desk, passed by value. Promises: what each small function tells of a slot is what specs/Slots.antt says; when a state is
 // sound (specs/Sound.antt has the paper's list, specs/Decision.antt the tests, proofs/Exactly.antt that they agree) is decided by the crate `sound`.
+#![tactic(auto)]
+
 ghost use Rattle.std.specs.Prelude.{◌≡◌, ◌&&◌};
 ghost use Rattle.state.specs.Slots.{no_file, held, need_of, complete, incomplete, of_pair, head_of, all_zero_state};
 
@@ -10,7 +12,7 @@ use packet::{Application, Count, Packet};
 
 // A file slot. It is held exactly if a packet was accepted for it; the need follows from the length, and it is complete exactly if as many
 // packets were accepted as it needs blocks. No flag says what these numbers say already.
-#[derive(Drop)]
+#[derive(Clone, Copy)]
 pub struct Slot {
     pub channel: Channel,
     pub application: Application,
@@ -93,7 +95,7 @@ impl Slot {
 }
 
 // What the state keeps of a desk: how many octets it holds, whether a frame was seen, and the last frame's counter.
-#[derive(Drop)]
+#[derive(Clone, Copy)]
 pub struct Desk {
     pub held: u16,
     pub seen: bool,
@@ -108,7 +110,7 @@ impl Desk {
 }
 
 // The state that every call takes and gives back.
-#[derive(Drop)]
+#[derive(Clone, Copy)]
 pub struct Station {
     pub spacecraft: u8,
     pub channels: u8,
@@ -120,7 +122,7 @@ pub struct Station {
 }
 
 // A state but for its files: what no packet changes.
-#[derive(Drop)]
+#[derive(Clone, Copy)]
 pub struct Head {
     pub spacecraft: u8,
     pub channels: u8,

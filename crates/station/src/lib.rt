@@ -2,6 +2,8 @@
 //
 // A state goes in by value and comes back by value; desks, store, event list and buffers are lent. No call asks anything of what comes in.
 // Each contract is one equation between everything that comes out and a definition in specs/ of what came in.
+#![tactic(auto)]
+
 ghost use Rattle.std.specs.Prelude.{◌≡◌, true, ◌++◌, map, ◌-◌, length, replicate};
 ghost use Rattle.state.specs.Slots.{all_zero_state};
 ghost use Rattle.state.specs.Decision.{good_channels};
@@ -14,14 +16,14 @@ use state::{Desk, Station};
 use transport::Transport;
 
 // A number of the paper, and the state.
-#[derive(Drop)]
+#[derive(Clone, Copy)]
 pub struct Answered {
     pub answer: u8,
     pub station: Station,
 }
 
 // What comes of letting a file go: a number of the paper, whether the file was complete, and the state.
-#[derive(Drop)]
+#[derive(Clone, Copy)]
 pub struct LetGo {
     pub answer: u8,
     pub complete: bool,
@@ -29,7 +31,7 @@ pub struct LetGo {
 }
 
 // What is known of a slot that a call names.
-#[derive(Drop)]
+#[derive(Clone, Copy)]
 pub enum Asked {
     Refused(u8),
     Complete(usize),
@@ -37,7 +39,7 @@ pub enum Asked {
 }
 
 // What a call tells of the file in a slot: a number of the paper, or what is known of it.
-#[derive(Drop)]
+#[derive(Clone, Copy)]
 pub enum Told {
     Refused(u8),
     Known(Facts),

@@ -2,13 +2,15 @@
 //
 // Owns the hunter, refusal 15, the definitions of the stream (specs/) and the laws of them: however a stream is divided, the frames and the octets left
 // waiting are the same (specs/Promises.antt). The call that hunts is `hunt` of the crate `hunter`.
+#![tactic(auto)]
+
 ghost use Rattle.std.specs.Prelude.{◌≡◌, ◌+◌, ◌-◌, ◌≤◌, length, drop};
 ghost use Rattle.octets.specs.Number.{part};
 ghost use Rattle.stream.specs.Hunter.{begun_by};
 ghost use Rattle.stream.specs.Seek.{near, sought_in, quiet};
 
 // The hunter: whether it was begun, how many wrong bits a marker may have, how many octets wait, and the octets themselves, zeros after them.
-#[derive(Drop)]
+#[derive(Clone, Copy)]
 pub struct Hunter {
     pub begun: bool,
     pub k: u8,
@@ -17,14 +19,14 @@ pub struct Hunter {
 }
 
 // What comes of a beginning: a number, and the hunter.
-#[derive(Drop)]
+#[derive(Clone, Copy)]
 pub struct Begun {
     pub answer: u8,
     pub hunter: Hunter,
 }
 
 // What comes of a hunt: a number, how many octets of the portion were taken, whether a frame was found, and the hunter.
-#[derive(Drop)]
+#[derive(Clone, Copy)]
 pub struct Hunted {
     pub answer: u8,
     pub taken: usize,
@@ -74,7 +76,7 @@ pub fn is_near(v: u32, k: u8) -> bool
 }
 
 // Where the first marker ends, with its four octets; or the last octets seen.
-#[derive(Drop)]
+#[derive(Clone, Copy)]
 pub enum Sought {
     At(usize, u32),
     Nowhere(u32),

@@ -3,6 +3,8 @@
 //
 // Promises: the buffer after a call is an equation on the whole buffer, and so is the end (specs/Pieces.antt); what follows one another is
 // one piece (proofs/Following.antt). The callers of this crate show that there is room.
+#![tactic(auto)]
+
 ghost use Rattle.std.specs.Prelude.{◌+◌, ◌*◌, ◌^◌, ◌≤◌, ◌<◌, ◌≡◌, ◌++◌, length};
 ghost use Rattle.io.specs.Digits.{last_digits as digits_of, hex_digit_ascii};
 ghost use Rattle.text.specs.Pieces.{decimal as decimal_of, spaced, spaced_signed, in_hex, Written};

@@ -3,6 +3,8 @@
 // Owns the length rule (behind the names good_length and octets_of_bits), the need in blocks, and the four shapes of a file's packets.
 // Promises: the need and the rest are exact for every length up to 2^64 - 1; a packet's shape is decided as the paper gives it; data of
 // any octets that would begin a file is answered.
+#![tactic(auto)]
+
 ghost use Rattle.std.specs.Prelude.{◌≡◌, ◌≤◌, length};
 ghost use Rattle.transport.specs.Length.{transport_of, good_length, octets_of_bits, transport_size, need as need_of, rest as rest_of};
 ghost use Rattle.transport.specs.Shape.{first_fits, whole_fits, middle_fits, last_fits, fits as fits_of, begun_of};
@@ -10,7 +12,7 @@ ghost use Rattle.transport.specs.Shape.{first_fits, whole_fits, middle_fits, las
 use packet::{Count, Packet};
 
 // What the transport header says: the file counter, and the length of the file in bits.
-#[derive(Drop)]
+#[derive(Clone, Copy)]
 pub struct Transport {
     pub counter: u16,
     pub bits: u64,
@@ -130,7 +132,7 @@ pub fn fits(flags: u8, n: usize, bits: u64, accepted: u16, last: Count, count: C
 }
 
 // What the data of a packet with flags 1 or 3 begins: nothing right, or a file with this transport header.
-#[derive(Drop)]
+#[derive(Clone, Copy)]
 pub enum Begun {
     Wrong,
     Right(Transport),

@@ -2,6 +2,8 @@
 //
 // Owns the memory: a desk buffer, a store buffer and a state, of which any octet and any field can be set. Promises: the program is safe and
 // ends; each command changes state, desks and store as the crate `drive` has it, by the station's own definitions.
+#![tactic(auto)]
+
 ghost use Rattle.std.specs.Prelude.{◌≡◌, ◌≤◌, length, take};
 ghost use Rattle.octets.specs.Buffer.{put};
 ghost use Rattle.lines.specs.Lines.{end_line};
@@ -47,7 +49,7 @@ fn rest() -> u64
 
 // What comes next of the script: a command whose payload is so many octets, at the start of a buffer; or how many octets of the script are not
 // used, for the run ends with them.
-#[derive(Drop)]
+#[derive(Clone, Copy)]
 pub enum Fetched {
     Octets(Command, usize),
     Unused(u64),

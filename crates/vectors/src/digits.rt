@@ -29,7 +29,7 @@ fn value(x: u8) -> u8
 }
 
 // What some digits stand for: so many octets, or nothing.
-#[derive(Drop)]
+#[derive(Clone, Copy)]
 pub enum Decoded {
     Octets(usize),
     Nothing,

@@ -3,6 +3,8 @@
 // Owns the reading of lines of any length from an input of any length. Promises: the program is safe and ends; the octets of a question
 // are those that its digits stand for (specs/Digits.antt); what it prints of a line is the text of what the leaves' contracts answer
 // (specs/Answers.antt), or nothing for an empty line and a comment (specs/Kept.antt).
+#![tactic(auto)]
+
 mod answers;
 mod digits;
 

@@ -2,6 +2,8 @@
 //
 // Promises: what comes of octets that are read from a place of the zone on is walked_from (zone specs/Walk.antt), and the zone is read where it
 // lies.
+#![tactic(auto)]
+
 ghost use Rattle.std.specs.Prelude.{[], ◌+◌, ◌*◌, ◌≤◌, drop};
 ghost use Rattle.state.specs.Slots.{station_of};
 ghost use Rattle.zone.specs.Walk.{with_desk, walked_from};
@@ -14,7 +16,7 @@ use state::{Desk, Head, Slot, Station};
 use zone::{Done, Next};
 
 // Where a walk over octets ended: at a place with what is unfinished behind it, or at a bad header.
-#[derive(Drop)]
+#[derive(Clone, Copy)]
 pub struct Stop {
     pub slots: [Slot; Station::SLOTS],
     pub events: usize,
@@ -79,7 +81,7 @@ pub fn walk(
 }
 
 // What the desk keeps, and how many events the list has.
-#[derive(Drop)]
+#[derive(Clone, Copy)]
 struct Left {
     held: u16,
     events: usize,

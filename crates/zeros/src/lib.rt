@@ -2,6 +2,8 @@
 //
 // Promises: the answer is the one of a look at each octet of the stretch in turn (octets specs/Buffer), whatever the stretch's length and place.
 // The callers of this crate show that the stretch is there.
+#![tactic(auto)]
+
 ghost use Rattle.std.specs.Prelude.{◌≡◌, ◌-◌, ◌≤◌, length};
 ghost use Rattle.octets.specs.Number.{part};
 ghost use Rattle.octets.specs.Buffer.{all_zero, four_zero};

@@ -3,6 +3,8 @@
 // Owns the definition of all that comes of a frame that is not refused, walked (specs/Walk.antt), and its laws: the held octets and the zone are
 // one stretch of octets there. Promises: each question about one place of the zone is answered as that definition has it; `walk` and `carry` act
 // on the answers.
+#![tactic(auto)]
+
 ghost use Rattle.std.specs.Prelude.{◌≡◌, ◌≤◌, length, drop};
 ghost use Rattle.packet.specs.Header.{size_of, look_of};
 ghost use Rattle.zone.specs.Zone.{agrees as agrees_of};
@@ -14,7 +16,7 @@ use packet::{Look, Packet};
 use state::{Desk, Slot, Station};
 
 // The slots afterwards, how many events the list has, and what the frame's desk keeps.
-#[derive(Drop)]
+#[derive(Clone, Copy)]
 pub struct Done {
     pub slots: [Slot; Station::SLOTS],
     pub events: usize,
@@ -60,7 +62,7 @@ pub fn is_gap(d: Desk, counter: Counter) -> bool
 }
 
 // What comes next in the zone: a whole packet with this header, or the end of what can be judged, at a bad header or not.
-#[derive(Drop)]
+#[derive(Clone, Copy)]
 pub enum Next {
     Take(Packet),
     End(bool),
@@ -107,7 +109,7 @@ pub fn leave(slots: [Slot; Station::SLOTS], a: Accepted, held: u16, told: usize)
 }
 
 // What becomes of a held packet: it is dropped, with an event of this kind, or carried on, and has this size.
-#[derive(Drop)]
+#[derive(Clone, Copy)]
 pub enum Sequel {
     Dropped(u16),
     CarriedOn(usize),

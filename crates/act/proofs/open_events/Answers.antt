@@ -1,0 +1,14 @@
+-- `act::open_events` meets its contract: one event, or two. Assumes nothing.
+use Rattle.act.proofs.Telling.{told-first, told-whole}
+use Rattle.act.proofs.open_events.Goals as goal
+
+pub returns-then-flags-eq-WHOLE : goal.returns-then-flags-eq-WHOLE
+returns-then-flags-eq-WHOLE c =
+    let m = c.emit-m.ensures in
+    let l = c.emit.ensures in
+    told-whole _ _ _ _ _ m.0 m.1 c.if-flags-eq-WHOLE.true l.0 l.1
+
+pub returns : goal.returns
+returns c =
+    let m = c.emit-m.ensures in
+    told-first _ _ _ _ _ m.0 m.1 c.if-flags-eq-WHOLE.false

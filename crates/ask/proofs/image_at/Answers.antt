@@ -1,0 +1,54 @@
+-- `ask::image_at` meets its contract. Assumes nothing.
+use mathlib.Core.Path.{sym, ap, ◌∙◌}
+use Prim.Native.Nat.{◌<◌}
+use native.Mathlib.Omega.{arith}
+use lib.ListN.{length}
+use Rattle.catalogue.specs.declared.ImageEntry.{ImageEntry}
+use Rattle.catalogue.specs.declared.ImageAsked.TheVariants.{Refused, Nothing, There}
+use Rattle.catalogue.specs.Catalogue.{images_of}
+use Rattle.catalogue.specs.Reading.{Lies}
+use Rattle.catalogue.specs.Asking.{image_entry, image_asked}
+use Rattle.catalogue.proofs.Judging.{found-lies}
+use Rattle.catalogue.proofs.Asking.{asked-none, asked-nothing, asked-there, image-count, image-stands}
+use Rattle.ask.proofs.image_entry.Reads as image-entry-reads
+use Rattle.catalogue.proofs.find.Reads as find-reads
+use Rattle.ask.proofs.image_at.Goals as goal
+use Rattle.ask.proofs.image_at.Goals.{In-At, Start}
+
+short : (c : Start) → length c.args.s.now < 18446744073709551616
+short c = omega arith
+
+lies : (c : In-At) → Lies c.args.s.now c.in-At.at
+lies c = (found-lies (sym c.find-found.ensures ∙ c.in-At.is)).1
+
+pub returns-then-n-at : goal.returns-then-n-at
+unfolding image_asked
+returns-then-n-at c =
+    let a = c.args in
+    asked-nothing (Refused 31) Nothing (λ r. There (image_entry r)) a.s.now (images_of a.s.now) a.n c.find-found.ensures c.in-At.is
+    (omega (arith, image-count (lies (goal.at.returns-then-n-at c).In-At)))
+
+pub overflow_add-at : goal.overflow_add-at
+overflow_add-at c = omega (arith, (lies (goal.at.overflow_add-at c).In-At).second, (lies (goal.at.overflow_add-at c).In-At).third, (lies (goal.at.overflow_add-at c).In-At).ends, short (goal.at.overflow_add-at c).Start)
+
+pub overflow_mul-n : goal.overflow_mul-n
+overflow_mul-n c = omega (arith, (lies (goal.at.overflow_mul-n c).In-At).second, (lies (goal.at.overflow_mul-n c).In-At).third, (lies (goal.at.overflow_mul-n c).In-At).ends, short (goal.at.overflow_mul-n c).Start)
+
+pub overflow_add-at-in-At : goal.overflow_add-at-in-At
+overflow_add-at-in-At c = omega (arith, (lies (goal.at.overflow_add-at-in-At c).In-At).second, (lies (goal.at.overflow_add-at-in-At c).In-At).third, (lies (goal.at.overflow_add-at-in-At c).In-At).ends, short (goal.at.overflow_add-at-in-At c).Start)
+
+pub image_entry-requires : goal.image_entry-requires
+image_entry-requires c = omega (arith, (lies (goal.at.image_entry-requires c).In-At).second, (lies (goal.at.image_entry-requires c).In-At).third, (lies (goal.at.image_entry-requires c).In-At).ends)
+
+pub returns-in-Nowhere : goal.returns-in-Nowhere
+unfolding image_asked
+returns-in-Nowhere c =
+    let a = c.args in
+    asked-none (Refused 31) Nothing (λ r. There (image_entry r)) a.s.now (images_of a.s.now) a.n c.find-found.ensures c.in-Nowhere.is
+
+pub returns-else-n-at : goal.returns-else-n-at
+unfolding image_asked
+returns-else-n-at c =
+    let a = c.args in
+    asked-there (Refused 31) Nothing (λ r. There (image_entry r)) a.s.now (images_of a.s.now) a.n c.find-found.ensures c.in-At.is
+    (omega (arith, image-count (lies (goal.at.returns-else-n-at c).In-At))) (ap (λ (x : ImageEntry). There x) c.image_entry.ensures) (image-stands (lies (goal.at.returns-else-n-at c).In-At) a.n (omega arith))

@@ -1,0 +1,115 @@
+-- `carry::walk_frame` is the definition `walked`: the zone read at the pointer, or the packet on the desk first. Assumes nothing.
+use mathlib.Core.Path.{◌≡◌, ap, ◌∙◌}
+use native.Mathlib.Omega.{arith}
+use lib.ListN.{length}
+use Rattle.octets.proofs.Lists.{unmap}
+use Rattle.octets.proofs.Put.{length-put}
+use Rattle.state.specs.declared.Station.{Station}
+use Rattle.state.specs.Slots.{station_of, desk_at}
+use Rattle.state.specs.Sound.{Sized}
+use Rattle.walk.proofs.Ends.{desk-fits}
+use Rattle.carry.specs.Contract.{Begins}
+use Rattle.carry.specs.declared.Opening.{Opening}
+use Rattle.carry.specs.declared.Opening.TheVariants.{Carries}
+use Rattle.carry.proofs.Carry.{beginning, afresh-lent, afresh-few, afresh-tells, onward-lacking, onward-most, onward-length, onward-longer, onward-going, onward-lent, onward-few, onward-tells}
+use Rattle.carry.proofs.walk_frame.Goals as goal
+use Rattle.carry.proofs.walk_frame.Goals.{After-begin-opening, In-Carries, Start}
+
+abbrev station : Start → Station
+station i = station_of i.args.head i.args.owner.now i.args.slots
+
+sized : (c : Start) → Sized (station c)
+sized c =
+    record { watched = search (rules, unmap); desks = search (rules, unmap); owner = c.requires.0.owners; slots = search (rules, unmap) }
+
+-- where the code begins, from where it is known how the frame does
+abbrev start : After-begin-opening → Start
+start b = (goal.at.After-begin-opening b).Start
+
+abbrev BeginsBy : After-begin-opening → Opening → Type 0
+BeginsBy b x =
+    let i = (start b).args in
+    Begins (desk_at (station (start b)) i.a.desk) i.a i.zone.now i.desks.now i.list.now x b.begin-opening.new.1.1.1.0
+    b.begin-opening.new.1.1.1.1.0
+
+begins : (b : After-begin-opening) → {x : Opening} → b.begin-opening.result ≡ x → BeginsBy b x
+begins b e = rw e at b.begin-opening.ensures
+
+-- and from where it is the packet on the desk
+abbrev begun : In-Carries → After-begin-opening
+begun k = (goal.at.In-Carries k).After-begin-opening
+
+onwards : (k : In-Carries) → BeginsBy (begun k) (Carries k.in-Carries.size)
+onwards k = begins (begun k) k.in-Carries.is
+
+pub begin-opening-requires : goal.begin-opening-requires
+begin-opening-requires c =
+    beginning i.requires.0 i.requires.1
+
+pub walk_rest-requires : goal.walk_rest-requires
+walk_rest-requires c =
+    let i = start (goal.at.walk_rest-requires c).After-begin-opening in
+    let o = begins (goal.at.walk_rest-requires c).After-begin-opening c.in-Reads.is in record {
+      lent = afresh-lent i.pre.0 i.pre.1 o.1;
+      from_bound = (omega (arith, o.0, i.pre.0.start), omega (arith, afresh-few i.pre.0 i.pre.1 o.1));
+    }
+
+pub returns-in-Reads : goal.returns-in-Reads
+returns-in-Reads c =
+    let i = start (goal.at.returns-in-Reads c).After-begin-opening in
+    let o = begins (goal.at.returns-in-Reads c).After-begin-opening c.in-Reads.is in
+    afresh-tells i.pre.0 i.pre.1 o.0 o.1 c.walk_rest.ensures
+
+pub overflow_sub-lacked : goal.overflow_sub-lacked
+overflow_sub-lacked c =
+    let i = start (begun (goal.at.overflow_sub-lacked c).In-Carries) in
+    omega (arith, onward-lacking i.pre.0 i.pre.1 (onwards (goal.at.overflow_sub-lacked c).In-Carries))
+
+pub overflow_cast-all : goal.overflow_cast-all
+overflow_cast-all c =
+    let i = start (begun (goal.at.overflow_cast-all c).In-Carries) in
+    omega (arith, onward-lacking i.pre.0 i.pre.1 (onwards (goal.at.overflow_cast-all c).In-Carries), onward-most i.pre.0 i.pre.1 (onwards (goal.at.overflow_cast-all c).In-Carries))
+
+pub returns-then-lacked-gt-ZONE : goal.returns-then-lacked-gt-ZONE
+returns-then-lacked-gt-ZONE c =
+    let i = start (begun (goal.at.returns-then-lacked-gt-ZONE c).In-Carries) in
+    rw c.leave.ensures (onward-longer i.pre.0 i.pre.1 (onwards (goal.at.returns-then-lacked-gt-ZONE c).In-Carries) c.if-lacked-gt-ZONE.true)
+
+pub slice_bounds-walk-end : goal.slice_bounds-walk-end
+slice_bounds-walk-end c =
+    let i = start (begun (goal.at.slice_bounds-walk-end c).In-Carries-2) in
+    let O = onwards (goal.at.slice_bounds-walk-end c).In-Carries-2 in
+    omega (
+      arith,
+      onward-lacking i.pre.0 i.pre.1 O,
+      onward-most i.pre.0 i.pre.1 O,
+      desk-fits i.pre.0,
+      onward-length i.pre.0 i.pre.1 O,
+    )
+
+pub walk-w-requires : goal.walk-w-requires
+walk-w-requires c =
+    let i = start (begun (goal.at.walk-w-requires c).In-Carries-2) in
+    onward-going i.pre.0 i.pre.1 (onwards (goal.at.walk-w-requires c).In-Carries-2) c.before.before.before.before.before.if1.false
+
+pub walk_rest-requires-in-Carries : goal.walk_rest-requires-in-Carries
+walk_rest-requires-in-Carries c =
+    let i = start (begun (goal.at.walk_rest-requires-in-Carries c).In-Carries-2) in
+    let l = w.before.before.before.before.before.before.if1.false in
+    let O = onwards (goal.at.walk_rest-requires-in-Carries c).In-Carries-2 in
+    (onward-lent i.pre.0 i.pre.1 O l c.walk-w.ensures (sized i), (l, onward-few i.pre.0 i.pre.1 O l c.walk-w.ensures))
+
+pub shape_of-desks-in-Carries : goal.shape_of-desks-in-Carries
+shape_of-desks-in-Carries c =
+    let i = start (begun (goal.at.shape_of-desks-in-Carries c).In-Carries-2) in
+    ap length c.walk_rest-in-Carries.ensures.desked ∙ simp length-put (onward-length i.pre.0 i.pre.1 (onwards (goal.at.shape_of-desks-in-Carries c).In-Carries-2))
+
+pub shape_of-list-in-Carries : goal.shape_of-list-in-Carries
+shape_of-list-in-Carries c =
+    ap length c.walk_rest-in-Carries.ensures.listed
+    ∙ simp length-put (ap length c.walk-w.ensures.told.listed ∙ simp length-put (ap length (onwards (goal.at.shape_of-list-in-Carries c).In-Carries-2).none))
+
+pub returns-in-Carries : goal.returns-in-Carries
+returns-in-Carries c =
+    let i = start (begun (goal.at.returns-in-Carries c).In-Carries-2) in
+    onward-tells i.pre.0 i.pre.1 (onwards (goal.at.returns-in-Carries c).In-Carries-2) w.before.before.before.before.before.before.if1.false c.walk-w.ensures c.walk_rest-in-Carries.ensures

@@ -1,0 +1,28 @@
+-- `crc::by_bits` meets its contract. The loop's invariant: what is wanted is what the octets that are left make of the register.
+-- Assumes nothing.
+use mathlib.Core.Path.{◌≡◌, refl, ◌∙◌, ap}
+use mathlib.Core.List.{List}
+use Prim.Native.Nat.{ℕ, ◌+◌, ◌-◌, ◌<◌}
+use native.Mathlib.Numerals.{add-one}
+use native.Mathlib.Omega.{arith}
+use lib.ListN.{length, get_or, drop}
+use lib.Seq.{drop-cons}
+use Rattle.crc.specs.Crc.{octet, crc_from}
+use Rattle.crc.proofs.Laws.{none_left}
+use Rattle.crc.proofs.by_bits.Goals as goal
+
+one_more : (xs : List ℕ) (c s i t : ℕ) → i < length xs → t ≡ crc_from c (drop i xs) → s ≡ octet c (get_or xs i 0) → t ≡ crc_from s (drop (i + 1) xs)
+unfolding crc_from
+one_more xs c s i t h e f = rw (add-one, f) (e ∙ ap (crc_from c) (drop-cons xs i 0 h))
+
+pub loop-i-init : goal.loop-i-init
+loop-i-init c = (omega arith, refl)
+
+pub octet-c-requires : goal.octet-c-requires
+octet-c-requires c = tt
+
+pub loop-i-preserved : goal.loop-i-preserved
+loop-i-preserved c = (omega arith, one_more _ _ _ _ _ c.loop-i-test.true c.loop-i.invariant.1 c.octet-c.ensures)
+
+pub returns : goal.returns
+returns c = none_left _ _ _ _ c.loop-i-test.false c.loop-i.invariant.1

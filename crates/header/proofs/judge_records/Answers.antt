@@ -1,0 +1,46 @@
+-- `header::judge_records` meets its contract. The invariant: the marks are those of the records before, and the records from here on decide.
+-- Assumes nothing.
+use mathlib.Core.Path.{sym}
+use Prim.Native.Nat.{◌-◌}
+use native.Mathlib.Omega.{arith}
+use Rattle.records.proofs.Walk.{place-of}
+use Rattle.records.proofs.Marking.{judging-begins, judging-ends, judging-refused, judging-on}
+use Rattle.header.proofs.judge_records.Goals as goal
+
+pub loop-at-init : goal.loop-at-init
+loop-at-init c = judging-begins _ _
+
+pub bounds-seen-kind : goal.bounds-seen-kind
+bounds-seen-kind c = omega (arith, c.loop-at.invariant.marked.long)
+
+pub judge_record-judged-requires : goal.judge_record-judged-requires
+judge_record-judged-requires c = omega (arith, place-of _ _ c.record_at-r.ensures)
+
+pub returns-in-Refused : goal.returns-in-Refused
+returns-in-Refused c =
+    sym
+    (judging-refused _ c.loop-at.invariant c.record_at-r.ensures c.loop-at-test.true (omega arith)
+    c.judge_record-judged.ensures
+    _
+    c.in-Refused.is)
+
+pub bounds-seen-kind-in-Good : goal.bounds-seen-kind-in-Good
+bounds-seen-kind-in-Good c = omega (arith, c.loop-at.invariant.marked.long)
+
+pub next_place-at-requires : goal.next_place-at-requires
+next_place-at-requires c = omega (arith, place-of _ _ c.record_at-r.ensures)
+
+pub loop-at-smaller : goal.loop-at-smaller
+loop-at-smaller c = omega (arith, place-of _ _ c.record_at-r.ensures)
+
+pub loop-at-preserved : goal.loop-at-preserved
+loop-at-preserved c =
+    judging-on _ c.loop-at.invariant c.record_at-r.ensures c.loop-at-test.true (omega arith)
+    c.judge_record-judged.ensures
+    _
+    c.in-Good.is
+    c.next_place-at.ensures.0
+    c.next_place-at.ensures.1
+
+pub returns : goal.returns
+returns c = sym (judging-ends _ c.loop-at.invariant c.loop-at-test.false)

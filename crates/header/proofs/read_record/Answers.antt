@@ -1,0 +1,40 @@
+-- `header::read_record` meets its contract: the answer follows the judgement. Assumes nothing.
+use mathlib.Core.Path.{sym, ap, ◌∙◌}
+use mathlib.Core.List.{List}
+use Prim.Native.Nat.{ℕ}
+use native.Mathlib.Omega.{arith}
+use Rattle.records.specs.Table.{fixed_types}
+use Rattle.records.specs.Records.{header_says, header_of, records, nth}
+use Rattle.records.specs.Reader.{read_record}
+use Rattle.records.specs.declared.RecordAnswer.TheVariants.{Refused}
+use Rattle.records.proofs.Passing.{Accepts}
+use Rattle.records.proofs.Answering.{good-accepts, header-part, answered}
+use Rattle.records.proofs.Said.{record-told}
+use Rattle.header.proofs.read_record.Goals as goal
+use Rattle.header.proofs.read_record.Goals.{In-Good}
+
+-- behind the judgement
+accepted : (c : In-Good) → Accepts fixed_types c.args.file.now
+accepted c = good-accepts _ _ c.judge-judged.ensures c.in-Good.is
+
+pub u32_at-end-requires : goal.u32_at-end-requires
+u32_at-end-requires c = omega (arith, (accepted c).head.long)
+
+pub slice_bounds-find_record-end : goal.slice_bounds-find_record-end
+slice_bounds-find_record-end c = omega (arith, (accepted (goal.at.slice_bounds-find_record-end c).In-Good).head.within)
+
+pub returns-in-Refused : goal.returns-in-Refused
+unfolding read_record
+returns-in-Refused c =
+    record-told _ _ (sym (answered (header_says fixed_types _) _ Refused c.judge-judged.ensures c.in-Refused.is))
+
+pub returns-in-Good : goal.returns-in-Good
+unfolding read_record
+returns-in-Good c =
+    let start = c.args in
+    record-told _ _
+    (c.find_record.ensures ∙ ap (λ (h : List ℕ). nth (records h) start.n) (header-part start.file.now c.u32_at-end.ensures)
+    ∙ sym
+    (answered (header_says fixed_types start.file.now) (nth (records (header_of start.file.now)) start.n) Refused
+    c.judge-judged.ensures
+    c.in-Good.is))

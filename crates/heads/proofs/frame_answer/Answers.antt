@@ -1,0 +1,16 @@
+-- `heads::frame_answer` meets its contract. Assumes nothing.
+use Rattle.text.proofs.Following.{behind}
+use Rattle.heads.specs.Heads.{frame_text}
+use Rattle.heads.proofs.frame_answer.Goals as goal
+
+-- NOT TURNED
+slice-aggregate-with-three : tie.Need-slice-aggregate-with-three
+slice-aggregate-with-three c = search rules
+
+pub returns : goal.returns
+unfolding frame_text
+returns c = (
+  search rules,
+  let at-with-three = (goal.at.returns c).After-with_three-third in
+      behind (behind at-with-three.with-three.ensures.1 c.number-end.ensures.1) c.pointer_answer.ensures.1,
+)

@@ -1,0 +1,22 @@
+-- `heads::packet_answer` meets its contract, by what stands at the start of the octets. Assumes nothing.
+use Rattle.heads.specs.Heads.{packet_text}
+use Rattle.heads.proofs.packet_answer.Goals as goal
+
+-- NOT TURNED
+slice-aggregate-word : tie.Need-slice-aggregate-word
+slice-aggregate-word c = search rules
+
+pub returns-in-Short : goal.returns-in-Short
+unfolding packet_text
+returns-in-Short c = (search rules, rw c.in-Short.is c.word.ensures)
+
+-- NOT TURNED
+slice-aggregate-word-2 : tie.Need-slice-aggregate-word-2
+slice-aggregate-word-2 c = search rules
+
+pub returns-in-Bad : goal.returns-in-Bad
+unfolding packet_text
+returns-in-Bad c = (search rules, rw c.in-Bad.is c.word-in-Bad.ensures)
+
+pub returns-in-Good : goal.returns-in-Good
+returns-in-Good c = rw c.in-Good.is c.good_packet_answer.ensures

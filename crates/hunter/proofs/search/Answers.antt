@@ -1,0 +1,41 @@
+use mathlib.Core.Path.{◌≡◌, ◌∙◌}
+use native.Mathlib.Omega.{arith}
+use lib.ListN.{length}
+use Rattle.hunter.proofs.Hunting.{first-settled, first-hunt, few-hunt}
+use Rattle.hunter.proofs.search.Reads as reads
+use Rattle.hunter.proofs.search.Lts as lts
+use Rattle.hunter.proofs.fill.Reads as fill-reads
+use Rattle.hunter.proofs.none_found.Reads as none-found-reads
+use Rattle.hunter.proofs.slide.Reads as slide-reads
+use Rattle.octets.proofs.copy.Reads as copy-reads
+use Rattle.hunter.proofs.search.Goals as goal
+use Rattle.hunter.proofs.search.Goals.{Start}
+
+size : (c : Start) → length c.args.h.octets ≡ 1024
+size c = search rules
+
+pub fill-requires : goal.fill-requires
+fill-requires c =
+    first-settled c.args.h c.requires.sound c.args.portion.now _ c.requires.room (omega arith)
+
+pub returns-then-n-ge4 : goal.returns-then-n-ge4
+returns-then-n-ge4 c =
+    let a = c.args in
+    c.fill.ensures ∙ first-hunt a.h c.requires.sound a.portion.now a.buffer.now c.requires.room (omega arith)
+
+pub slide-requires : goal.slide-requires
+slide-requires c =
+    record { sound = c.requires.sound; few = omega arith; enough = omega arith; room = c.requires.room }
+
+pub returns-then-n-len : goal.returns-then-n-len
+returns-then-n-len c = c.slide.ensures
+
+pub copy-requires : goal.copy-requires
+copy-requires c =
+    let z = size (goal.at.copy-requires c).Start in
+    omega arith
+
+pub returns : goal.returns
+returns c =
+    let a = c.args in
+    rw c.none_found.ensures (few-hunt a.h c.requires.sound a.portion.now a.buffer.now _ (omega arith) c.copy.ensures)

@@ -1,0 +1,6 @@
+-- `lines::answer_line` meets its contract. Assumes nothing.
+use Rattle.text.proofs.Following.{behind}
+use Rattle.lines.proofs.answer_line.Goals as goal
+
+pub returns : goal.returns
+returns c = (search rules, behind c.with_number-last.ensures.1 c.line_end.ensures.1)

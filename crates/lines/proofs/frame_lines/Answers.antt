@@ -1,0 +1,12 @@
+-- `lines::frame_lines` meets its contract. Assumes nothing.
+use Rattle.text.proofs.Following.{behind}
+use Rattle.lines.proofs.frame_lines.Goals as goal
+
+-- NOT TURNED
+slice-aggregate-with-number : tie.Need-slice-aggregate-with-number
+slice-aggregate-with-number c = search rules
+
+pub returns : goal.returns
+returns c =
+    let count = behind c.with_number-first.ensures.1 c.number-last.ensures.1 in
+    (search rules, behind (behind count c.line_end-head.ensures.1) c.events.ensures.written)

@@ -1,0 +1,24 @@
+-- `readout::navigation` meets its contract. Assumes nothing.
+use Rattle.text.proofs.Following.{nothing, behind}
+use Rattle.readout.specs.Readout.{navigation_text}
+use Rattle.readout.proofs.Signs.{same-field}
+use Rattle.readout.proofs.navigation.Goals as goal
+
+pub returns-in_default : goal.returns-in_default
+unfolding navigation_text
+returns-in_default c = (search rules, rw c.in_default.is (nothing _ _))
+
+pub returns : goal.returns
+unfolding navigation_text
+returns c = (
+  search rules,
+  let at-struct-told = (goal.at.returns c).After-named-first in
+      let at_named = at-struct-told.before.before.before.before in
+      let at_n = at_named.before.before.before in
+      let fits = at-struct-told.struct_told.given in
+      let first = behind at_named.named.ensures.1 c.signed_pair-third.ensures.1 in
+      let pairs =
+      rw (same-field _ fits.0.1, same-field _ fits.1.0.1, same-field _ fits.1.1.0.1, same-field _ fits.1.1.1.0.1)
+      at (behind first c.signed_pair.ensures.1) in
+      rw at_n.n.given.1 pairs,
+)

@@ -1,0 +1,12 @@
+-- `readout::signed` meets its contract. Assumes nothing.
+use Rattle.readout.specs.Readout.{signed_text}
+use mir.Facts.{to_z-of_z}
+use Rattle.readout.proofs.signed.Goals as goal
+
+pub returns : goal.returns
+unfolding signed_text
+returns c = (
+  search rules,
+  let at-fits = (goal.at.returns c).Start in
+      rw (c.magnitude.ensures, to_z-of_z at-fits.ranges.v) at c.signed.ensures.1,
+)

@@ -1,0 +1,11 @@
+-- `readout::signed_pair` meets its contract. Assumes nothing.
+use Rattle.text.proofs.Following.{behind}
+use mir.Facts.{to_z-of_z}
+use Rattle.readout.proofs.signed_pair.Goals as goal
+
+pub returns : goal.returns
+returns c = (
+  search rules,
+  let at-fits = (goal.at.returns c).Start in
+      rw (to_z-of_z at-fits.ranges.v, to_z-of_z at-fits.ranges.w) at (behind c.signed-second.ensures.1 c.signed.ensures.1),
+)

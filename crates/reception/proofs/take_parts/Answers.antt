@@ -1,0 +1,34 @@
+-- `take_parts` meets its contract: a frame is refused and nothing changes, or its zone is walked. Assumes nothing.
+use mathlib.Core.Path.{sym, ◌∙◌}
+use Rattle.octets.proofs.Lists.{unmap}
+use Rattle.state.specs.declared.Station.{Station}
+use Rattle.state.specs.Slots.{station_of}
+use Rattle.state.specs.Sound.{Sized}
+use Rattle.station.proofs.Frames.{desk-kept, admits, zone-here, walk-lent, frame-taken}
+use Rattle.reception.proofs.take_parts.Goals as goal
+use Rattle.reception.proofs.take_parts.Goals.{After-admit-e, Start}
+
+abbrev state : Start → Station
+state i = station_of i.args.t1 i.args.owner.now i.args.slots
+
+sized : (i : Start) → Sized (state i)
+sized i =
+    record { watched = search (rules, unmap); desks = search (rules, unmap); owner = search rules; slots = search (rules, unmap) }
+
+-- where the frame was looked at
+abbrev start : After-admit-e → Start
+start k = k.before.before.before.before.before.before.before.before.before.before.before
+
+pub returns-in-Refused : goal.returns-in-Refused
+returns-in-Refused c = (search rules, desk-kept _ _ _ _ _ 0 (sym c.in-Refused.is ∙ c.admit-e.ensures.value))
+
+pub take_accepted-requires : goal.take_accepted-requires
+take_accepted-requires c =
+    let good = c.before.before.before.before.before.before.before.e2.given.1 in
+    walk-lent (sized (start (goal.at.take_accepted-requires c).Start)) (admits _ _ _ _ _ k.admit.ensures.0 good) (zone-here _ (k.admit.ensures.1 _ good))
+
+pub returns-in-Good : goal.returns-in-Good
+returns-in-Good c =
+    let good = c.before.before.before.before.before.before.before.before.before.before.before.before.before.before.e2.given.1 in
+    let took = c.take_accepted.ensures in
+    (took.0, frame-taken _ _ _ _ _ (sym good ∙ k.admit.ensures.0) (zone-here _ (k.admit.ensures.1 _ good)) took.1)

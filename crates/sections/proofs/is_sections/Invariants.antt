@@ -1,0 +1,12 @@
+use Prim.Native.Nat.{◌-◌}
+use lib.ListN.{length}
+use Rattle.sections.proofs.Chain.{Chaining}
+use Rattle.sections.proofs.fits.Reads as fits-reads
+use Rattle.octets.proofs.u16_at.Reads as u16-at-reads
+use Rattle.sections.proofs.is_sections.Given as goal
+
+abbrev pub invariant-loop-k : goal.invariant-loop-k
+invariant-loop-k l = Chaining l.s l.at l.sizes l.k l.p
+
+abbrev pub decreases-loop-k : goal.decreases-loop-k
+decreases-loop-k l = length l.sizes - l.k

@@ -1,0 +1,35 @@
+-- `show::show` meets its contract. Assumes nothing.
+use mathlib.Core.Path.{◌≡◌}
+use Prim.Native.Nat.{◌-◌, ◌≤◌}
+use native.Mathlib.Nat.{min-le_right}
+use native.Mathlib.Omega.{arith}
+use lib.ListN.{length}
+use lib.Seq.{length-take-le}
+use Rattle.octets.proofs.Lists.{unmap}
+use Rattle.show.proofs.Showing.{shown-whole}
+use Rattle.show.proofs.show.Goals as goal
+use Rattle.show.proofs.show.Goals.{Start}
+
+owners : (c : Start) → length c.args.s.owner ≡ 4096
+owners c = search rules
+
+watched : (c : Start) → length c.args.s.watched ≡ 8
+watched c = search (rules, unmap)
+
+pub slice_bounds-slot_lines-end : goal.slice_bounds-slot_lines-end
+slice_bounds-slot_lines-end c =
+    let few : c.before.least.result ≤ 4096 = rw c.before.least.ensures (min-le_right _ _) in
+    omega (arith, owners c.before.before.before.before.before.before.before.before.before.before.before.before, few)
+
+pub returns : goal.returns
+returns c =
+    let start = c.before.before.before.before.before.before.before.before.before.before.before.before.before.before.before.before.before.before.before.before.before.before.before.before.before in
+    let a = start.args in
+    let first = c.before.before.before.before.before.before.before.before.before.before.before.before.before.before.before.before.before.before.before.before.head-line.ensures in
+    let second = c.slot_lines-last.ensures in
+    let third = c.channel_lines.ensures in
+    let blocks = c.before.before.before.before.before.before.before.before.before.before.before.before.before.before.least in
+    let few : blocks.result ≤ 4096 = rw blocks.ensures (min-le_right _ _) in
+    let fits : blocks.result - 0 ≤ length a.s.owner = omega (arith, owners start, few) in
+    let cut = length-take-le (blocks.result - 0) a.s.owner fits in
+    (omega (arith, first.0, second.0, third.0, few, cut), shown-whole a.s a.desks.now a.store.now (owners start) (watched start) blocks.ensures c.least-channels.ensures first.1 second.1 third.1)

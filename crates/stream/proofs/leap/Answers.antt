@@ -1,0 +1,28 @@
+use Prim.Native.Nat.{◌-◌}
+use native.Mathlib.Omega.{arith}
+use Rattle.octets.proofs.Tests.{granted}
+use Rattle.stream.proofs.Stretches.{scanned, leaps-found, leaps-nowhere}
+use Rattle.stream.proofs.leap.Reads as reads
+use Rattle.stream.proofs.leap.Lts as lts
+use Rattle.octets.proofs.u32_at.Reads as u32-at-reads
+use Rattle.stream.proofs.is_quiet.Reads as is-quiet-reads
+use Rattle.stream.proofs.scan.Reads as scan-reads
+use Rattle.stream.proofs.leap.Goals as goal
+
+pub returns-then-not-is_quiet : goal.returns-then-not-is_quiet
+returns-then-not-is_quiet c =
+    let a = c.args in
+    scanned a.portion.now a.k a.from a.v (omega arith) (omega arith) _ c.scan.ensures
+
+pub returns-in-At : goal.returns-in-At
+returns-in-At c =
+    let a = c.args in
+    leaps-found a.portion.now a.k a.from a.v (omega arith) (omega arith) _ _ _ c.scan-s.ensures c.in-At.is
+
+pub returns-in-Nowhere : goal.returns-in-Nowhere
+returns-in-Nowhere c =
+    let a = c.args in
+    leaps-nowhere a.portion.now a.k a.from a.v (omega arith) (omega arith) _ _ _
+    (λ i. (c.type_inv.portion i).fits)
+    (granted c.is_quiet.ensures c.if-not-is_quiet.false) c.scan-s.ensures
+    c.in-Nowhere.is c.u32_at.ensures

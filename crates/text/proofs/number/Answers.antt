@@ -1,0 +1,14 @@
+-- `text::number` meets its contract. Assumes nothing.
+use Rattle.text.specs.Pieces.{spaced}
+use Rattle.text.proofs.Following.{behind}
+use Rattle.text.proofs.number.Goals as goal
+
+-- NOT TURNED
+slice-aggregate-word : tie.Need-slice-aggregate-word
+slice-aggregate-word c = search rules
+
+pub returns : goal.returns
+unfolding spaced
+returns c =
+    let begun = c.word-begun.ensures in
+    (search rules, behind begun c.decimal.ensures.1)

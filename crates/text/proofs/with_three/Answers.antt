@@ -1,0 +1,6 @@
+-- `text::with_three` meets its contract. Assumes nothing.
+use Rattle.text.proofs.Following.{behind}
+use Rattle.text.proofs.with_three.Goals as goal
+
+pub returns : goal.returns
+returns c = (search rules, behind c.word-end.ensures c.numbers.ensures.1)

@@ -1,0 +1,6 @@
+-- `transport::need` meets its contract. Assumes nothing.
+use Rattle.transport.proofs.need.Goals as goal
+
+-- NOT TURNED
+div-result : tie.Need-nonzero-div-result
+div-result c = search rules

@@ -1,0 +1,35 @@
+-- `vectors::answers::answer` meets its contract. Assumes nothing.
+use mathlib.Core.Path.{subst}
+use Prim.Native.Nat.{◌≤◌}
+use native.Mathlib.Omega.{arith}
+use native.Mathlib.Nat.{sub-zero}
+use borrow.Author.Tests.{lt-ltb, le-ltb}
+use Rattle.vectors.specs.Answers.{answer_of}
+use Rattle.vectors.specs.Question.{count_of}
+use Rattle.vectors.specs.declared.digits.Decoded.{Decoded}
+use Rattle.vectors.proofs.answers.answer.Goals as goal
+
+pub returns-then-held-line : goal.returns-then-held-line
+unfolding answer_of
+returns-then-held-line c = rw (lt-ltb _ _ c.if-held-line.true) c.refusal.ensures
+
+pub slice_bounds-answer_to-end : goal.slice_bounds-answer_to-end
+slice_bounds-answer_to-end c =
+    let few = subst (λ (d : Decoded). count_of d ≤ 1024) at-d.d.given.1 at-d.before.before.before.question.ensures.0 in
+    omega (arith, few)
+
+pub returns-in-Octets : goal.returns-in-Octets
+unfolding answer_of
+returns-in-Octets c =
+    let at-question = (goal.at.returns-in-Octets c).Else-held-line in
+    let at-if1 = at-question.before.before.before in
+    rw (le-ltb _ _ at-if1.if1.false, ← (rw (at-d.d.given.1, sub-zero) at at-question.question.ensures.1))
+    (rw sub-zero at c.answer_to.ensures)
+
+pub returns-in-Nothing : goal.returns-in-Nothing
+unfolding answer_of
+returns-in-Nothing c =
+    let at-question = (goal.at.returns-in-Nothing c).After-question-d in
+    let at-if1 = at-question.before.before.before in
+    rw (le-ltb _ _ at-if1.if1.false, ← (rw (c.in-Nothing.is, sub-zero) at at-question.question.ensures.1))
+    c.refusal-in-Nothing.ensures

@@ -1,0 +1,16 @@
+-- `vectors::answers::crc_answer` meets its contract. Assumes nothing.
+use Rattle.text.proofs.Following.{behind}
+use Rattle.vectors.specs.Answers.{crc_text}
+use Rattle.vectors.proofs.answers.crc_answer.Goals as goal
+
+-- NOT TURNED
+slice-aggregate-word : tie.Need-slice-aggregate-word
+slice-aggregate-word c = search rules
+
+pub returns : goal.returns
+unfolding crc_text
+returns c = (
+  search rules,
+  let at-word = (goal.at.returns c).After-word-letter in
+      rw c.crc.ensures at (behind at-word.word.ensures c.hex.ensures.1),
+)

@@ -1,0 +1,36 @@
+-- `vectors::digits::decode` meets its contract. The invariant: the octets so far stand in front of those of the digits that are left. Assumes nothing.
+use mathlib.Core.Path.{refl, sym}
+use Prim.Native.Nat.{◌-◌}
+use native.Mathlib.Omega.{arith}
+use lib.ListN.{length-set}
+use Rattle.vectors.proofs.Decoding.{odd-none, begin, end, high-none, low-none, more}
+use Rattle.vectors.proofs.digits.decode.Goals as goal
+
+pub returns-then-digits-ne0 : goal.returns-then-digits-ne0
+returns-then-digits-ne0 c = (omega arith, sym (odd-none c.args.digits.now (omega arith)))
+
+pub loop-i-init : goal.loop-i-init
+loop-i-init c = (omega arith, refl, begin _ _)
+
+pub returns-then-high-gt15 : goal.returns-then-high-gt15
+returns-then-high-gt15 c =
+    let inv = c.loop-i.invariant in
+    (omega arith, high-none inv.2 (omega arith) (omega arith))
+
+pub returns-then-low-gt15 : goal.returns-then-low-gt15
+returns-then-low-gt15 c =
+    let inv = c.loop-i.invariant in
+    (omega arith, low-none inv.2 (omega arith) (omega arith) (omega arith))
+
+pub loop-i-preserved : goal.loop-i-preserved
+loop-i-preserved c =
+    let inv = c.loop-i.invariant in
+    (omega arith, simp length-set inv.1, more inv.2 (omega arith) _ (omega arith) (omega arith) (omega arith) (omega arith))
+
+pub returns : goal.returns
+returns c =
+    let inv = c.loop-i.invariant in
+    record {
+      result_bound = omega arith;
+      asked_after = end inv.2 (omega arith);
+    }

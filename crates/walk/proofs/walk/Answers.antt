@@ -1,0 +1,98 @@
+-- `walk::walk` judges packets one after the other: each is decided and then done. The loop's invariant says that what is still to be done
+-- gives what was wanted; the measure is what is left of the zone. Assumes nothing.
+use mathlib.Core.Path.{sym, ◌∙◌}
+use Prim.Native.Nat.{◌-◌}
+use native.Mathlib.Omega.{arith}
+use lib.ListN.{drop}
+use Rattle.octets.proofs.Lists.{unmap}
+use Rattle.state.specs.Slots.{station_of}
+use Rattle.state.specs.Sound.{Sized}
+use Rattle.state.proofs.Places.{needs-fit}
+use Rattle.zone.proofs.Turns.{Walking, begins, same-list, stops-here, Taken, taken, inside, smallest, packet-here, header-here, skips, says, ready, turns}
+use Rattle.walk.proofs.walk.Goals as goal
+use Rattle.walk.proofs.walk.Goals.{After-size, At-loop-bad, Start}
+
+sized : (c : Start) → Sized (station_of c.args.head c.args.owner.now c.args.slots)
+sized c =
+    record { watched = search (rules, unmap); desks = search (rules, unmap); owner = c.requires.owners; slots = search (rules, unmap) }
+
+-- where the code begins and where a turn does, from where a packet's size is known
+abbrev start : After-size → Start
+start z = (goal.at.After-size z).Start
+
+abbrev turn : After-size → At-loop-bad
+turn z = (goal.at.After-size z).At-loop-bad
+
+-- where the walk stands there
+abbrev WalkingIn : After-size → Type 0
+WalkingIn z =
+    let i = (start z).args in
+    let l = (turn z).loop in
+    Walking i.channel (station_of i.head i.owner.now i.slots) i.zone.now i.from i.store.now i.n i.list.now
+    (station_of i.head l.owner l.kept) l.store l.list l.events l.at
+
+abbrev walking : (z : After-size) → WalkingIn z
+walking z = (turn z).loop.invariant
+
+-- and that packet
+here : (z : After-size)
+    → Taken (drop (turn z).loop.at (start z).args.zone.now) z.in-Take.h z.size.result
+here z = taken (walking z) z.next_at-next.ensures z.in-Take.is z.size.ensures
+
+pub loop-bad-init : goal.loop-bad-init
+loop-bad-init c = begins _ _ _ _ _ _ _ (sized (goal.at.loop-bad-init c).Start) c.before.before.before.requires
+
+pub next_at-next-requires : goal.next_at-next-requires
+next_at-next-requires c = omega (arith, c.loop-bad.invariant.going.within)
+
+pub shape_of-list-in-End : goal.shape_of-list-in-End
+shape_of-list-in-End c = same-list c.loop-bad.invariant
+
+pub returns-in-End : goal.returns-in-End
+returns-in-End c = stops-here c.loop-bad.invariant c.next_at-next.ensures c.in-End.is
+
+pub overflow_add-end : goal.overflow_add-end
+overflow_add-end c = omega (arith, inside (walking c) (here c), (walking c).going.short)
+
+pub slice_bounds-packet-end : goal.slice_bounds-packet-end
+slice_bounds-packet-end c = omega (arith, inside (walking c) (here c))
+
+pub rule-ruling-requires : goal.rule-ruling-requires
+rule-ruling-requires c =
+    let w = walking (goal.at.rule-ruling-requires c).After-size in
+    (packet-here w (here (goal.at.rule-ruling-requires c).After-size), header-here w (here (goal.at.rule-ruling-requires c).After-size), needs-fit w.sized w.going.sound)
+
+pub loop-bad-smaller-in-Skips : goal.loop-bad-smaller-in-Skips
+loop-bad-smaller-in-Skips c =
+    omega (arith, inside (walking (goal.at.loop-bad-smaller-in-Skips c).After-size) (here (goal.at.loop-bad-smaller-in-Skips c).After-size), smallest (walking (goal.at.loop-bad-smaller-in-Skips c).After-size) (here (goal.at.loop-bad-smaller-in-Skips c).After-size))
+
+pub loop-bad-preserved-in-Skips : goal.loop-bad-preserved-in-Skips
+loop-bad-preserved-in-Skips c =
+    turns (walking (goal.at.loop-bad-preserved-in-Skips c).After-size) (here (goal.at.loop-bad-preserved-in-Skips c).After-size) (skips (walking (goal.at.loop-bad-preserved-in-Skips c).After-size) (here (goal.at.loop-bad-preserved-in-Skips c).After-size) c.rule-ruling.ensures c.in-Skips.is)
+
+pub emit-events-requires : goal.emit-events-requires
+emit-events-requires c =
+    omega (arith, (ready (walking (goal.at.emit-events-requires c).After-size) (here (goal.at.emit-events-requires c).After-size)).enough)
+
+pub loop-bad-smaller-in-Says : goal.loop-bad-smaller-in-Says
+loop-bad-smaller-in-Says c =
+    omega (arith, inside (walking (goal.at.loop-bad-smaller-in-Says c).After-size) (here (goal.at.loop-bad-smaller-in-Says c).After-size), smallest (walking (goal.at.loop-bad-smaller-in-Says c).After-size) (here (goal.at.loop-bad-smaller-in-Says c).After-size))
+
+pub loop-bad-preserved-in-Says : goal.loop-bad-preserved-in-Says
+loop-bad-preserved-in-Says c =
+    let told = c.emit-events.ensures in
+    turns (walking (goal.at.loop-bad-preserved-in-Says c).After-size) (here (goal.at.loop-bad-preserved-in-Says c).After-size)
+    (says (walking (goal.at.loop-bad-preserved-in-Says c).After-size) (here (goal.at.loop-bad-preserved-in-Says c).After-size) c.rule-ruling.ensures c.in-Says.is told.0 told.1)
+
+pub carry_out-told-requires : goal.carry_out-told-requires
+carry_out-told-requires c =
+    let w = walking (goal.at.carry_out-told-requires c).After-size in
+    (ready w (here (goal.at.carry_out-told-requires c).After-size), (packet-here w (here (goal.at.carry_out-told-requires c).After-size), header-here w (here (goal.at.carry_out-told-requires c).After-size), sym c.rule-ruling.ensures ∙ c.in-Does.is))
+
+pub loop-bad-smaller : goal.loop-bad-smaller
+loop-bad-smaller c =
+    omega (arith, inside (walking (goal.at.loop-bad-smaller c).After-size) (here (goal.at.loop-bad-smaller c).After-size), smallest (walking (goal.at.loop-bad-smaller c).After-size) (here (goal.at.loop-bad-smaller c).After-size))
+
+pub loop-bad-preserved : goal.loop-bad-preserved
+loop-bad-preserved c =
+    turns (walking (goal.at.loop-bad-preserved c).After-size) (here (goal.at.loop-bad-preserved c).After-size) c.carry_out-told.ensures

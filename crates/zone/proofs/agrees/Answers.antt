@@ -1,0 +1,15 @@
+-- `zone::agrees` is the definition of the same name, by what the pointer says. Assumes nothing.
+use mathlib.Core.Path.{sym, ap}
+use Rattle.frame.proofs.Tags.{tag-no-start}
+use Rattle.zone.specs.Zone.{agrees}
+use Rattle.zone.proofs.agrees.Goals as goal
+
+pub returns-in-Offset : goal.returns-in-Offset
+unfolding agrees
+returns-in-Offset c = sym (ap (agrees c.args.lacked) c.in-Offset.is)
+
+pub returns-in-NoStart : goal.returns-in-NoStart
+unfolding agrees
+returns-in-NoStart c =
+    let i = c.args in
+    sym (ap (agrees i.lacked) (tag-no-start i.pointer c.in-NoStart.keys2))

@@ -1,0 +1,31 @@
+-- `zone::next_at` is the definition `next_of` of the zone from the place on. Assumes nothing.
+use mathlib.Core.Path.{sym}
+use native.Mathlib.Omega.{arith}
+use lib.ListN.{drop, length-drop}
+use Rattle.packet.proofs.Tags.{look-told}
+use Rattle.zone.proofs.Turns.{next-short, next-bad, next-part, next-whole, seen}
+use Rattle.zone.proofs.next_at.Goals as goal
+
+pub returns-in-Short : goal.returns-in-Short
+returns-in-Short c =
+    let i = c.args in
+    sym (next-short (drop i.at i.zone.now) (seen i.zone.now i.at c.look_at-look.ensures (look-told _ c.in-Short.keys1)))
+
+pub returns-in-Bad : goal.returns-in-Bad
+returns-in-Bad c =
+    let i = c.args in
+    sym (next-bad (drop i.at i.zone.now) (seen i.zone.now i.at c.look_at-look.ensures (look-told _ c.in-Bad.keys2)))
+
+pub returns-then-zone-at : goal.returns-then-zone-at
+returns-then-zone-at c =
+    let i = c.args in
+    sym
+    (next-part (drop i.at i.zone.now) (seen i.zone.now i.at c.look_at-look.ensures c.in-Good.is)
+    (omega (arith, c.size-size.ensures, length-drop i.at i.zone.now)))
+
+pub returns-in-Good : goal.returns-in-Good
+returns-in-Good c =
+    let i = c.args in
+    sym
+    (next-whole (drop i.at i.zone.now) (seen i.zone.now i.at c.look_at-look.ensures c.in-Good.is)
+    (omega (arith, c.size-size.ensures, length-drop i.at i.zone.now)))
