@@ -121,12 +121,16 @@ class Turn:
                 if best:
                     return [arm[0], best[0]] + segs[1 + len(best[1]):]
             own = places[j][2]
-            if norm(own[0]) == norm(head):
+            bare = re.sub(r"\d+$", "", norm(head))
+            if norm(own[0]) == norm(head) or (j == i and norm(own[0]) == bare and own[0]):
                 for var, known in v["typed"][j]:
                     if norm(known) == norm(head):
                         rest = segs[1:]
                         return ["type_inv", var] + (rest[1:] if rest[:1] == ["given"] else rest)
                 rest = segs[1:]
+                swap = dict((a, b) for a, b in places[j][4])
+                if rest and rest[0] in swap:
+                    rest = [swap[rest[0]]] + rest[1:]
                 if rest[:1] == ["ensures"] and v["clauses"][j]:
                     rest = ["ensures"] + self.index(v["clauses"][j]["fields"], rest[1:])
                 if rest[:1] == ["inv"]:
@@ -178,7 +182,7 @@ class Turn:
                 return m.group(0)
             i, (var, at, goal), segs = r
             if not segs:
-                if i == at or (self.fn.shown(i) == self.fn.shown(at) and not self.fn.inner(at)):
+                if self.fn.shown(i) == self.fn.shown(at) and not self.fn.inner(at):
                     return var
                 self.uses = True
                 return f"(goal.at.{goal} {var}).{self.fn.place_name(i)}"
@@ -216,8 +220,9 @@ def turn(path, v, crate, dotted, requires):
     while head and not head[-1].strip():
         head.pop()
     comments = [l for l in head if l.startswith("--")]
-    uses = [l for l in head if l.startswith("use ") and not re.search(r"\.(Tie as tie|Statement\.\{statement\}|Rules\.\{rules\})$", l)]
+    uses = [l for l in head if l.startswith("use ") and not re.search(r"\.(Tie as tie|Statement\.\{statement\})$", l)]
     used, answers, invariants, helpers, named = set(), [], [], [], set()
+    renamed, easy = {}, {}
     for b in blocks("\n".join(rest)):
         lines = b.split("\n")
         k = 0
@@ -273,8 +278,8 @@ def turn(path, v, crate, dotted, requires):
                 answers.append("\n".join(above + ["-- NOT TURNED"] + lines))
                 continue
             term = n.group(3).strip()
-            if re.fullmatch(r"search rules|omega arith", term):
-                continue
+            renamed[m.group(1)] = new
+            plain = re.fullmatch(r"search rules|omega arith", term)
             if re.fullmatch(r"record \{.*\}", term, re.S) is None and new in v["asked"] and len(v["asked"][new]) > 1:
                 for cut in [0] + [q.end() for q in re.finditer(r"\bin\s+(?=\()", term)]:
                     fs = fields_of(term[cut:], v["asked"][new])
@@ -286,6 +291,8 @@ def turn(path, v, crate, dotted, requires):
             term = t.text(term)
             nl = n.group(3).startswith("\n")
             answers.append("\n".join(above + [f"pub {new} : goal.{new}"]) + "\n" + opened + f"{new} {n.group(1)} =" + ("\n    " if nl else " ") + term)
+            if plain:
+                easy[new] = answers[-1]
             continue
         if re.match(r"pub \S+ : \{M : Type 1\} → statement M", sig):
             continue
@@ -315,6 +322,15 @@ def turn(path, v, crate, dotted, requires):
             t.roots[var] = (i, (var, fn.shown(i), fn.place_name(i)))
             b = t.text(b)
         helpers.append("\n".join(above + [b]))
+    # answers that others cite go by their goals' names; an easy one stays only where it is cited
+    swapped = {a: b for a, b in renamed.items() if a != b}
+    def cite(t):
+        return PATH.sub(lambda q: (swapped[q.group(1)] + q.group(2)) if q.group(1) in swapped else q.group(0), t)
+    easy = {k: t for k, t in easy.items()}
+    answers = [a if a in easy.values() else cite(a) for a in answers]
+    helpers = [cite(h) for h in helpers]
+    everything = "\n".join(helpers + [a for a in answers if a not in easy.values()])
+    answers = [a for a in answers if a not in easy.values() or re.search(rf"(?<![\w'.-]){re.escape([k for k, t in easy.items() if t == a][0])}(?![\w'-])", everything)]
     folder = os.path.dirname(path)
     where = f"Rattle.{crate}.proofs.{dotted}"
 

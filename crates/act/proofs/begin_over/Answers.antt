@@ -1,6 +1,7 @@
 -- `act::begin_over` meets its contract: the file of the pair is gone, and the new one is refused with an event, or opened where there is room.
 -- Assumes nothing.
 use mathlib.Core.Path.{◌∙◌}
+use borrow.Author.Rules.{rules}
 use Rattle.octets.proofs.Lists.{unmap}
 use Rattle.events.specs.Event.{at}
 use Rattle.state.specs.Slots.{station_of}

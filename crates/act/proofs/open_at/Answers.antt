@@ -1,4 +1,5 @@
 -- `act::open_at` meets its contract: a file just opened has a first block. Assumes nothing.
+use borrow.Author.Rules.{rules}
 use Rattle.octets.proofs.Lists.{unmap}
 use Rattle.state.specs.Slots.{station_of}
 use Rattle.state.specs.Sound.{Sized}

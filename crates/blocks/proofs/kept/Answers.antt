@@ -1,4 +1,5 @@
 -- `blocks::kept` meets its contract. Assumes nothing.
+use borrow.Author.Rules.{rules}
 use borrow.Author.Tests.{eq-eqb, ne_eqb}
 use Rattle.blocks.proofs.kept.Goals as goal
 

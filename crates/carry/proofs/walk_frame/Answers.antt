@@ -1,6 +1,7 @@
 -- `carry::walk_frame` is the definition `walked`: the zone read at the pointer, or the packet on the desk first. Assumes nothing.
 use mathlib.Core.Path.{◌≡◌, ap, ◌∙◌}
 use native.Mathlib.Omega.{arith}
+use borrow.Author.Rules.{rules}
 use lib.ListN.{length}
 use Rattle.octets.proofs.Lists.{unmap}
 use Rattle.octets.proofs.Put.{length-put}

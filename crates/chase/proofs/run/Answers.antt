@@ -1,6 +1,7 @@
 -- `chase::run` meets its contract. Assumes nothing.
 use mathlib.Core.Path.{ap, ◌∙◌}
 use native.Mathlib.Omega.{arith}
+use borrow.Author.Rules.{rules}
 use Rattle.text.proofs.Following.{at_front}
 use Rattle.lines.specs.Lines.{end_line}
 use Rattle.script.specs.Follow.{Followed}

@@ -45,42 +45,42 @@ loop-i-init c = (omega arith, refl, omega arith, refl)
 pub bounds-three-x : goal.bounds-three-x
 bounds-three-x c =
     let turn = c.loop-i in
-    xor_lt 8 (turn.c / 0x100) (octet-at c turn.i) (omega arith) (octet-below c turn.i)
+    xor_lt 8 (turn.c / 0x100) (octet-at (goal.at.bounds-three-x c).In-loop-i turn.i) (omega arith) (octet-below (goal.at.bounds-three-x c).In-loop-i turn.i)
 
 pub overflow_cast-c : goal.overflow_cast-c
-overflow_cast-c c = omega (arith, array-read-c c)
+overflow_cast-c c = omega (arith, bounds-three-x (goal.at.overflow_cast-c c).In-loop-i)
 
 pub offset_bounds-three-x : goal.offset_bounds-three-x
-offset_bounds-three-x c = omega (arith, array-read-c c)
+offset_bounds-three-x c = omega (arith, bounds-three-x (goal.at.offset_bounds-three-x c).In-loop-i)
 
 pub bounds-two-y : goal.bounds-two-y
 bounds-two-y c =
     let turn = c.loop-i in
-    xor_lt 8 (turn.c % 0x100) (octet-at c (turn.i + 1)) (omega arith) (octet-below c (turn.i + 1))
+    xor_lt 8 (turn.c % 0x100) (octet-at (goal.at.bounds-two-y c).In-loop-i (turn.i + 1)) (omega arith) (octet-below (goal.at.bounds-two-y c).In-loop-i (turn.i + 1))
 
 pub overflow_cast-c-in-loop-i : goal.overflow_cast-c-in-loop-i
-overflow_cast-c-in-loop-i c = omega (arith, array-read-c-2 c)
+overflow_cast-c-in-loop-i c = omega (arith, bounds-two-y (goal.at.overflow_cast-c-in-loop-i c).In-loop-i)
 
 pub offset_bounds-two-y : goal.offset_bounds-two-y
-offset_bounds-two-y c = omega (arith, array-read-c-2 c)
+offset_bounds-two-y c = omega (arith, bounds-two-y (goal.at.offset_bounds-two-y c).In-loop-i)
 
 pub bounds-one-z : goal.bounds-one-z
-bounds-one-z c = octet-below c _
+bounds-one-z c = octet-below (goal.at.bounds-one-z c).In-loop-i _
 
 pub overflow_cast-c-in-loop-i-2 : goal.overflow_cast-c-in-loop-i-2
-overflow_cast-c-in-loop-i-2 c = omega (arith, array-read-c-3 c)
+overflow_cast-c-in-loop-i-2 c = omega (arith, bounds-one-z (goal.at.overflow_cast-c-in-loop-i-2 c).In-loop-i)
 
 pub offset_bounds-one-z : goal.offset_bounds-one-z
-offset_bounds-one-z c = omega (arith, array-read-c-3 c)
+offset_bounds-one-z c = omega (arith, bounds-one-z (goal.at.offset_bounds-one-z c).In-loop-i)
 
 pub bounds-none-w : goal.bounds-none-w
-bounds-none-w c = octet-below c _
+bounds-none-w c = octet-below (goal.at.bounds-none-w c).In-loop-i _
 
 pub overflow_cast-c-in-loop-i-3 : goal.overflow_cast-c-in-loop-i-3
-overflow_cast-c-in-loop-i-3 c = omega (arith, array-read-c-4 c)
+overflow_cast-c-in-loop-i-3 c = omega (arith, bounds-none-w (goal.at.overflow_cast-c-in-loop-i-3 c).In-loop-i)
 
 pub offset_bounds-none-w : goal.offset_bounds-none-w
-offset_bounds-none-w c = omega (arith, array-read-c-4 c)
+offset_bounds-none-w c = omega (arith, bounds-none-w (goal.at.offset_bounds-none-w c).In-loop-i)
 
 pub loop-i-preserved : goal.loop-i-preserved
 loop-i-preserved c =
@@ -97,16 +97,16 @@ loop-i-preserved c =
     c.table-one.ensures
     c.table-none.ensures
     c.loop-i.c
-    (octet-at c i)
-    (octet-at c (i + 1))
-    (octet-at c (i + 2))
-    (octet-at c (i + 3))
+    (octet-at (goal.at.loop-i-preserved c).In-loop-i i)
+    (octet-at (goal.at.loop-i-preserved c).In-loop-i (i + 1))
+    (octet-at (goal.at.loop-i-preserved c).In-loop-i (i + 2))
+    (octet-at (goal.at.loop-i-preserved c).In-loop-i (i + 3))
     inv.2
-    (octet-below c i)
-    (octet-below c (i + 1))
-    (octet-below c (i + 2))
-    (octet-below c (i + 3)) in
-    (omega arith, omega arith, subst (λ (r : ℕ). r < 0x10000) (sym register) (crc-below _ _ inv.2), four-more (lent c) c.loop-i.c _ i _ (omega arith) inv.3 register)
+    (octet-below (goal.at.loop-i-preserved c).In-loop-i i)
+    (octet-below (goal.at.loop-i-preserved c).In-loop-i (i + 1))
+    (octet-below (goal.at.loop-i-preserved c).In-loop-i (i + 2))
+    (octet-below (goal.at.loop-i-preserved c).In-loop-i (i + 3)) in
+    (omega arith, omega arith, subst (λ (r : ℕ). r < 0x10000) (sym register) (crc-below _ _ inv.2), four-more (lent (goal.at.loop-i-preserved c).In-loop-i) c.loop-i.c _ i _ (omega arith) inv.3 register)
 
 pub returns : goal.returns
 returns c = none_left _ _ _ _ c.loop-i-test.false c.loop-i.invariant.3

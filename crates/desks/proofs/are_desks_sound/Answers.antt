@@ -7,6 +7,7 @@ use mathlib.Core.List.{List}
 use Prim.Native.Nat.{ℕ, ◌+◌, ◌-◌, ◌*◌, ◌≤◌, ◌<◌}
 use native.Mathlib.Numerals.{add-one}
 use native.Mathlib.Omega.{arith}
+use borrow.Author.Rules.{rules}
 use lib.ListN.{length, get_or, take}
 use lib.Seq.{length-take-le, get_or-take}
 use Rattle.octets.specs.Each.{each}
@@ -53,15 +54,15 @@ pub returns-then-not-octets_held : goal.returns-then-not-octets_held
 unfolding desks_held
 returns-then-not-octets_held c =
     let l = c.loop-i in
-    settled l.invariant empty_desk (omega arith) (rw (← cut_out_lem l.i _, denied c.octets_held.ensures c.if-not-octets_held.true))
+    settled l.invariant empty_desk (omega arith) (rw (← cut_out_lem l.i _, denied c.octets_held.ensures c.if-not-octets_held.true-raw))
 
 pub loop-i-preserved : goal.loop-i-preserved
 unfolding desks_held
 loop-i-preserved c =
     let l = c.loop-i in
-    let sound = granted c.octets_held.ensures c.if-not-octets_held.false in
+    let sound = granted c.octets_held.ensures c.if-not-octets_held.false-raw in
     passed l.invariant empty_desk (omega arith) (rw (← cut_out_lem l.i _, sound, add-one l.i))
 
-pub returns : goal.returns
+pub returns-then-not-octets_held : goal.returns
 unfolding desks_held
-returns c = ended c.loop-i.invariant (omega arith) refl
+returns-then-not-octets_held c = ended c.loop-i.invariant (omega arith) refl

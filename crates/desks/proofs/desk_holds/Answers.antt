@@ -4,6 +4,7 @@ use mathlib.Core.Path.{◌≡◌, sym, ◌∙◌}
 use mathlib.Core.Bool.{true, false}
 use Prim.Native.Nat.{◌≤◌, ◌<◌}
 use native.Mathlib.Omega.{arith}
+use borrow.Author.Rules.{rules}
 use borrow.Author.Tests.{le-leb, lt-ltb, le-ltb, eq-eqb, ne_eqb}
 use lib.Dec.{eqb}
 use Rattle.octets.proofs.Tests.{tests}
@@ -48,7 +49,7 @@ returns-then-counter-ne0 c =
     let made = made-counter _ c.checked-checked.ensures c.in-Good.is in
     sym (counted _ (omega arith) made.0 (search rules) (λ e. c.if-counter-ne0.true (made.1 ∙ e)))
 
-pub returns : goal.returns
-returns c =
+pub returns-then-desk-gt-MOST : goal.returns
+returns-then-desk-gt-MOST c =
     let made = made-counter _ c.checked-checked.ensures c.in-Good.is in
     sym (uncounted _ (omega arith) made.0 (search rules) (sym made.1 ∙ c.if-counter-ne0.false))

@@ -3,6 +3,7 @@
 use mathlib.Core.Path.{refl}
 use Prim.Native.Nat.{◌-◌}
 use native.Mathlib.Omega.{arith}
+use borrow.Author.Rules.{rules}
 use Rattle.octets.specs.Each.{each}
 use Rattle.octets.proofs.Lists.{unmap}
 use Rattle.octets.proofs.Tests.{denied, granted}
@@ -16,13 +17,13 @@ loop-i-init c = begins _ _ _ (search (rules, unmap))
 pub returns-then-not-desk_holds : goal.returns-then-not-desk_holds
 unfolding each
 returns-then-not-desk_holds c =
-    settled c.loop-i.invariant empty_desk (omega arith) (rw (denied c.desk_holds.ensures c.if-not-desk_holds.true))
+    settled c.loop-i.invariant empty_desk (omega arith) (rw (denied c.desk_holds.ensures c.if-not-desk_holds.true-raw))
 
 pub loop-i-preserved : goal.loop-i-preserved
 unfolding each
 loop-i-preserved c =
-    passed c.loop-i.invariant empty_desk (omega arith) (rw (granted c.desk_holds.ensures c.if-not-desk_holds.false))
+    passed c.loop-i.invariant empty_desk (omega arith) (rw (granted c.desk_holds.ensures c.if-not-desk_holds.false-raw))
 
-pub returns : goal.returns
+pub returns-then-not-desk_holds : goal.returns
 unfolding each
-returns c = ended c.loop-i.invariant (omega arith) refl
+returns-then-not-desk_holds c = ended c.loop-i.invariant (omega arith) refl

@@ -5,6 +5,7 @@ use mathlib.Core.Logic.{⊎_elim}
 use mathlib.Core.List.{List}
 use Prim.Native.Nat.{ℕ, ◌-◌, ◌≤◌, ◌<◌}
 use native.Mathlib.Omega.{arith}
+use borrow.Author.Rules.{rules}
 use borrow.Author.Tests.{lt-ltb, le-ltb}
 use lib.Dec.{ltb}
 use lib.ListN.{length, drop}
@@ -55,7 +56,7 @@ returns-in_default c =
     (λ tag. sym (header _ _ (search granted) (look ∙ look-told _ tag) (omega arith)))
     c.in_default.keys2
 
-pub returns : goal.returns
-returns c =
+pub returns-then-not-all_zero : goal.returns
+returns-then-not-all_zero c =
     let look = sym c.look_at-l.ensures in
     sized _ _ (search granted) (look ∙ c.in-Good.is) (omega arith) c.size.ensures (search rules)

@@ -1,6 +1,7 @@
 -- `drive::carry_out` meets its contract. Assumes nothing.
 use mathlib.Core.Path.{sym, ◌∙◌}
 use native.Mathlib.Omega.{arith}
+use borrow.Author.Rules.{rules}
 use Rattle.text.proofs.Following.{nothing}
 use Rattle.script.specs.Memory.{memory}
 use Rattle.script.proofs.Limits.{frame-limit, read-limit}
@@ -55,8 +56,8 @@ returns-then-letter-eq72 c =
     let e = c.show_lent.ensures in
     (e.0 a.desks.now a.store.now ∙ sym law.0, (e.1.0, rw law.1 e.1.1))
 
-pub returns : goal.returns
-returns c =
+pub returns-then-letter-eq83 : goal.returns
+returns-then-letter-eq83 c =
     let a = c.args in
     let law = by-other a.x a.payload.now (memory a.w a.desks.now a.store.now) c.if-letter-eq83.false c.if-letter-eq70.false c.if-letter-eq82.false c.if-letter-eq76.false c.if-letter-eq73.false c.if-letter-eq72.false in
     let e = c.poke.ensures in

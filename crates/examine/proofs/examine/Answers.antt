@@ -14,11 +14,11 @@ returns-then-frame-ne-SIZE c = (sym (other-size _ _ _ c.if-frame-ne-SIZE.true), 
 pub returns-then-not-marked : goal.returns-then-not-marked
 returns-then-not-marked c =
     let size = c.if-frame-ne-SIZE.false in
-    let unlike = sym c.marked.ensures ∙ not-true _ c.if-not-marked.true in
+    let unlike = sym c.marked.ensures ∙ not-true _ c.if-not-marked.true-raw in
     (sym (other-marker _ _ _ size unlike), sym (plain-unframed _ _ (unmarked _ size unlike)))
 
-pub returns : goal.returns
-returns c =
+pub returns-then-frame-ne-SIZE : goal.returns
+returns-then-frame-ne-SIZE c =
     let size = test.before.before.if1.false in
     let framed = is_framed _ size (sym test.before.marked.ensures ∙ not-false _ test.if2.false) in
     let plain = mixing.mix.ensures ∙ coded _ size in record {

@@ -3,6 +3,7 @@ use mathlib.Core.Path.{◌∙◌}
 use mir.Facts.{to_z-of_z}
 use mir.Syntax.{w32}
 use Rattle.records.specs.Reader.{navigation_at}
+use borrow.Author.Rules.{rules}
 use Rattle.fields.proofs.navigation_at.Goals as goal
 
 pub returns : goal.returns

@@ -10,24 +10,24 @@ use Rattle.files.proofs.ask.Goals as goal
 use Rattle.files.proofs.ask.Goals.{Else-not-is_sound}
 
 sound : (e : Else-not-is_sound) → is_sound e.args.t1 ≡ true
-sound e = granted e.is_sound.ensures e.if-not-is_sound.false
+sound e = granted e.is_sound.ensures e.if-not-is_sound.false-raw
 
 pub returns-then-not-is_sound : goal.returns-then-not-is_sound
-returns-then-not-is_sound c = asked-unsound _ _ (denied c.is_sound.ensures c.if-not-is_sound.true)
+returns-then-not-is_sound c = asked-unsound _ _ (denied c.is_sound.ensures c.if-not-is_sound.true-raw)
 
 pub returns-then-k-ge-SLOTS : goal.returns-then-k-ge-SLOTS
 returns-then-k-ge-SLOTS c = asked-high _ _ (sound (goal.at.returns-then-k-ge-SLOTS c).Else-not-is_sound) (omega arith)
 
 pub returns-then-not-is_held : goal.returns-then-not-is_held
 returns-then-not-is_held c =
-    asked-free _ _ (sound (goal.at.returns-then-not-is_held c).Else-not-is_sound) (omega arith) (denied c.is_held.ensures c.if-not-is_held.true)
+    asked-free _ _ (sound (goal.at.returns-then-not-is_held c).Else-not-is_sound) (omega arith) (denied c.is_held.ensures c.if-not-is_held.true-raw)
 
 pub returns-then-is_complete : goal.returns-then-is_complete
 returns-then-is_complete c =
-    asked-complete _ _ (sound (goal.at.returns-then-is_complete c).Else-not-is_sound) (omega arith) (granted c.is_held.ensures c.if-not-is_held.false)
+    asked-complete _ _ (sound (goal.at.returns-then-is_complete c).Else-not-is_sound) (omega arith) (granted c.is_held.ensures c.if-not-is_held.false-raw)
     (sym c.is_complete.ensures ∙ c.if-is_complete.true)
 
-pub returns : goal.returns
-returns c =
-    asked-incomplete _ _ (sound (goal.at.returns c).Else-not-is_sound) (omega arith) (granted c.is_held.ensures c.if-not-is_held.false)
+pub returns-then-not-is_sound : goal.returns
+returns-then-not-is_sound c =
+    asked-incomplete _ _ (sound (goal.at.returns c).Else-not-is_sound) (omega arith) (granted c.is_held.ensures c.if-not-is_held.false-raw)
     (sym c.is_complete.ensures ∙ c.if-is_complete.false)

@@ -4,6 +4,7 @@ use mathlib.Core.List.{List}
 use Prim.Native.Nat.{ℕ, ◌+◌, ◌-◌, ◌≤◌, ◌<◌}
 use native.Mathlib.Numerals.{add-one}
 use native.Mathlib.Omega.{arith}
+use borrow.Author.Rules.{rules}
 use borrow.Author.Tests.{le-leb, lt-leb}
 use lib.ListN.{length}
 use Rattle.octets.specs.Number.{part}
@@ -65,5 +66,5 @@ copy_out-requires c =
       buffer_bound = rw add-one (omega arith);
     }
 
-pub returns : goal.returns
-returns c = inside _ _ _ _ _ (omega arith) (omega arith) c.copy_out.ensures
+pub returns-then-offset-size : goal.returns
+returns-then-offset-size c = inside _ _ _ _ _ (omega arith) (omega arith) c.copy_out.ensures

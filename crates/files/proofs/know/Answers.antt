@@ -4,6 +4,7 @@ use mathlib.Core.List.{List}
 use Prim.Native.Nat.{ℕ, ◌+◌}
 use native.Mathlib.Numerals.{add-one}
 use native.Mathlib.Omega.{arith}
+use borrow.Author.Rules.{rules}
 use Rattle.octets.specs.Number.{part, number_at}
 use Rattle.octets.proofs.Lists.{unmap}
 use Rattle.state.specs.declared.Station.{Station}

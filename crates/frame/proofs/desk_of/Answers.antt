@@ -6,6 +6,7 @@ use mathlib.Core.List.{List}
 use Prim.Native.Nat.{ℕ, ◌-◌, ◌≤◌, ◌<◌}
 use native.Mathlib.Omega.{arith}
 use borrow.Author.Count.{below_more}
+use borrow.Author.Rules.{rules}
 use lib.ListN.{length, get_or, take}
 use lib.Seq.{length-take-le, get_or-take}
 use Rattle.octets.proofs.Lists.{unmap}
@@ -51,7 +52,7 @@ pub loop-i-preserved : goal.loop-i-preserved
 unfolding Unnamed
 loop-i-preserved c = (omega arith, below_more _ _ c.loop-i.invariant.1 c.if-w-channel.false)
 
-pub returns : goal.returns
-returns c =
+pub returns-then-w-channel : goal.returns
+returns-then-w-channel c =
     let a = c.args in
     sym (unnamed a.channel c.loop-i.i a.n a.t1 (search (rules, unmap)) (omega arith) c.loop-i.invariant.1 (omega arith))

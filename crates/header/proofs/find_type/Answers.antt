@@ -28,6 +28,6 @@ loop-at-preserved c =
     c.next_place-at.ensures.1
     (λ rs. place-later _ rs _ c.if-r-kind.false)
 
-pub returns : goal.returns
+pub returns-then-r-kind : goal.returns
 unfolding place_of
-returns c = sym (ends c.loop-at.invariant c.loop-at-test.false)
+returns-then-r-kind c = sym (ends c.loop-at.invariant c.loop-at-test.false)

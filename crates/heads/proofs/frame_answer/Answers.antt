@@ -1,4 +1,5 @@
 -- `heads::frame_answer` meets its contract. Assumes nothing.
+use borrow.Author.Rules.{rules}
 use Rattle.text.proofs.Following.{behind}
 use Rattle.heads.specs.Heads.{frame_text}
 use Rattle.heads.proofs.frame_answer.Goals as goal

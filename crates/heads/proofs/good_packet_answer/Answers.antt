@@ -1,4 +1,5 @@
 -- `heads::good_packet_answer` meets its contract. Assumes nothing.
+use borrow.Author.Rules.{rules}
 use Rattle.text.proofs.Following.{behind}
 use Rattle.heads.specs.Heads.{packet_text}
 use Rattle.heads.proofs.good_packet_answer.Goals as goal

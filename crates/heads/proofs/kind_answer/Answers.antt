@@ -1,4 +1,5 @@
 -- `heads::kind_answer` meets its contract. Assumes nothing.
+use borrow.Author.Rules.{rules}
 use Rattle.heads.specs.Heads.{kind_text}
 use Rattle.heads.proofs.kind_answer.Goals as goal
 

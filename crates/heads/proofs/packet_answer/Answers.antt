@@ -1,4 +1,5 @@
 -- `heads::packet_answer` meets its contract, by what stands at the start of the octets. Assumes nothing.
+use borrow.Author.Rules.{rules}
 use Rattle.heads.specs.Heads.{packet_text}
 use Rattle.heads.proofs.packet_answer.Goals as goal
 

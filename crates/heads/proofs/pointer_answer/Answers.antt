@@ -1,5 +1,6 @@
 -- `heads::pointer_answer` meets its contract, by what the pointer means. Assumes nothing.
 use mathlib.Core.Path.{sym, ◌∙◌}
+use borrow.Author.Rules.{rules}
 use Rattle.text.proofs.Following.{behind}
 use Rattle.heads.specs.Heads.{meaning_text}
 use Rattle.heads.proofs.pointer_answer.Goals as goal

@@ -3,6 +3,7 @@
 use mathlib.Core.Path.{refl, sym, ◌∙◌, ap}
 use Prim.Native.Nat.{◌+◌, ◌-◌, ◌≤◌, ◌<◌}
 use native.Mathlib.Omega.{arith}
+use borrow.Author.Rules.{rules}
 use borrow.Author.Tests.{not-true, not-false}
 use lib.ListN.{length}
 use Rattle.stream.specs.Feed.{Fed}
@@ -35,17 +36,17 @@ returns-then-not-r c =
     (ap (λ (o : Fed). o.hunter) (sym fed), (g.counted ∙ ap (λ (o : Fed). length o.frames) (sym fed), ap (λ (o : Fed). o.buffer) (sym fed)))
 
 pub overflow_add-at : goal.overflow_add-at
-overflow_add-at c = omega (arith, moved c)
+overflow_add-at c = omega (arith, moved (goal.at.overflow_add-at c).After-write_all)
 
 pub overflow_add-frames : goal.overflow_add-frames
-overflow_add-frames c = omega (arith, moved c)
+overflow_add-frames c = omega (arith, moved (goal.at.overflow_add-frames c).After-write_all)
 
 pub loop-r-smaller : goal.loop-r-smaller
-loop-r-smaller c = omega (arith, moved c)
+loop-r-smaller c = omega (arith, moved (goal.at.loop-r-smaller c).After-write_all)
 
 pub loop-r-preserved : goal.loop-r-preserved
 loop-r-preserved c = (
-  goes_on (turn (called c)).loop.inv.0 (called c).hunt.result _ (called c).hunt.ensures (turn (called c)).loop.inv.2 (not-false _ c.before.before.before.if1.false) _ (omega arith),
+  goes_on (turn (called (goal.at.loop-r-preserved c).After-write_all)).loop.inv.0 (called (goal.at.loop-r-preserved c).After-write_all).hunt.result _ (called (goal.at.loop-r-preserved c).After-write_all).hunt.ensures (turn (called (goal.at.loop-r-preserved c).After-write_all)).loop.inv.2 (not-false _ c.before.before.before.if1.false) _ (omega arith),
   search rules,
   search rules,
 )

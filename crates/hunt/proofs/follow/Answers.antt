@@ -2,6 +2,7 @@
 -- The measure is how far it is from a number that no run comes to. Assumes nothing.
 use Prim.Native.Nat.{◌-◌}
 use native.Mathlib.Omega.{arith}
+use borrow.Author.Rules.{rules}
 use Rattle.hunt.proofs.Counting.{Following, first, more, further, no_more}
 use Rattle.hunt.proofs.follow.Goals as goal
 use Rattle.hunt.proofs.follow.Goals.{After-count-n, After-feed-g, At-loop-all, Start}
@@ -38,10 +39,10 @@ pub returns-then-n-eq0 : goal.returns-then-n-eq0
 returns-then-n-eq0 c = (turn (goal.at.returns-then-n-eq0 c).After-count-n).loop.inv.0.tallied
 
 pub overflow_add-all-in-loop-all : goal.overflow_add-all-in-loop-all
-overflow_add-all-in-loop-all c = omega (arith, no_more (onward c).tallied)
+overflow_add-all-in-loop-all c = omega (arith, no_more (onward (goal.at.overflow_add-all-in-loop-all c).After-feed-g).tallied)
 
 pub loop-all-preserved : goal.loop-all-preserved
-loop-all-preserved c = (onward c, search rules, search rules, search rules)
+loop-all-preserved c = (onward (goal.at.loop-all-preserved c).After-feed-g, search rules, search rules, search rules)
 
-pub returns : goal.returns
-returns c = c.loop-all.invariant.0.tallied
+pub returns-then-n-eq0 : goal.returns
+returns-then-n-eq0 c = c.loop-all.invariant.0.tallied

@@ -1,4 +1,5 @@
 -- `hunt::refusal` meets its contract. Assumes nothing.
+use borrow.Author.Rules.{rules}
 use Rattle.text.proofs.Following.{behind}
 use Rattle.hunt.proofs.refusal.Goals as goal
 

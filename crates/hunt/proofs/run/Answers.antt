@@ -1,6 +1,7 @@
 -- `hunt::run` meets its contract. Assumes nothing.
 use mathlib.Core.Path.{◌∙◌, ap}
 use native.Mathlib.Omega.{arith}
+use borrow.Author.Rules.{rules}
 use Rattle.stream.specs.Hunter.{begun_by}
 use Rattle.hunt.specs.Words.{chosen_by}
 use Rattle.hunt.proofs.Counting.{BegunWith, begun-well, begun-ill, no_more, tells, tells-15}
@@ -25,7 +26,7 @@ follow-t-requires c = ((begun (goal.at.follow-t-requires c).Else-b-ne0).fresh, s
 pub passed_over-passed-requires : goal.passed_over-passed-requires
 passed_over-passed-requires c = no_more c.follow-t.ensures
 
-pub returns : goal.returns
-returns c =
+pub returns-then-b-ne0 : goal.returns
+returns-then-b-ne0 c =
     let b = begun (goal.at.returns c).Else-b-ne0 in
     tells c.follow-t.ensures _ b.same b.fresh.limit c.passed_over-passed.ensures c.end.ensures

@@ -1,6 +1,7 @@
 use mathlib.Core.Path.{◌≡◌, sym, ap}
 use Prim.Native.Nat.{◌-◌}
 use native.Mathlib.Omega.{arith}
+use borrow.Author.Rules.{rules}
 use lib.ListN.{length, length-drop}
 use lib.Seq.{length-take-le}
 use Rattle.octets.proofs.Lists.{whole-rest}
@@ -41,8 +42,8 @@ copy-requires-2 c =
     let less = c.requires.less in
     omega (arith, length-take-le a.h.waiting a.h.octets (omega arith), c.requires.room)
 
-pub returns : goal.returns
-returns c =
+pub returns-then-left-need : goal.returns
+returns-then-left-need c =
     let a = c.args in
     let s = c.requires in
     fill-whole a.h a.portion.now a.at a.buffer.now s _ _ _ (omega arith) c.copy-2.ensures c.copy-3.ensures c.copy-4.ensures

@@ -1,5 +1,6 @@
 use mathlib.Core.Path.{◌≡◌, sym, ◌∙◌}
 use Prim.Native.Nat.{◌-◌}
+use borrow.Author.Rules.{rules}
 use borrow.Author.Tests.{not-true, not-false}
 use lib.ListN.{length}
 use Rattle.octets.proofs.Decide.{told-true}
@@ -18,7 +19,7 @@ size c = search rules
 
 sound-there : (c : Else-not-is_sound) → Sound c.args.h
 sound-there c =
-    told-true (decides-sound c.args.h (size (goal.at.Else-not-is_sound c).Start)) (sym c.is_sound.ensures ∙ not-false _ c.if-not-is_sound.false)
+    told-true (decides-sound c.args.h (size (goal.at.Else-not-is_sound c).Start)) (sym c.is_sound.ensures ∙ not-false _ c.if-not-is_sound.false-raw)
 
 pub returns-then-buffer-ne-SIZE : goal.returns-then-buffer-ne-SIZE
 returns-then-buffer-ne-SIZE c =
@@ -28,13 +29,13 @@ returns-then-buffer-ne-SIZE c =
 pub returns-then-not-is_sound : goal.returns-then-not-is_sound
 returns-then-not-is_sound c =
     let a = c.args in
-    sym (unsound a.h a.portion.now a.buffer.now c.if-buffer-ne-SIZE.false (sym c.is_sound.ensures ∙ not-true _ c.if-not-is_sound.true))
+    sym (unsound a.h a.portion.now a.buffer.now c.if-buffer-ne-SIZE.false (sym c.is_sound.ensures ∙ not-true _ c.if-not-is_sound.true-raw))
 
 pub search-requires : goal.search-requires
 search-requires c = record { sound = sound-there (goal.at.search-requires c).Else-not-is_sound; room = c.if-buffer-ne-SIZE.false }
 
-pub returns : goal.returns
-returns c =
+pub returns-then-buffer-ne-SIZE : goal.returns
+returns-then-buffer-ne-SIZE c =
     let a = c.args in
     c.search.ensures
     ∙ sym (hunted-sound a.h a.portion.now a.buffer.now c.if-buffer-ne-SIZE.false (sound-there (goal.at.returns c).Else-not-is_sound))

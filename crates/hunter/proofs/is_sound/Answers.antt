@@ -1,6 +1,7 @@
 use mathlib.Core.Path.{◌≡◌, sym, ◌∙◌, ap}
 use Prim.Native.Nat.{◌-◌}
 use native.Mathlib.Omega.{arith}
+use borrow.Author.Rules.{rules}
 use lib.ListN.{length}
 use Rattle.stream.specs.Seek.{near}
 use borrow.Author.Tests.{not-true, not-false}
@@ -40,16 +41,16 @@ pub returns-then-not-is_near : goal.returns-then-not-is_near
 returns-then-not-is_near c =
     let h = c.args.h in
     no-marker h (not-false _ c.if-not-h.false) (omega arith) (omega arith) (search rules) (omega arith)
-    (ap (near h.k) (sym c.u32_at-four.ensures) ∙ sym c.is_near.ensures ∙ not-true _ c.if-not-is_near.true)
+    (ap (near h.k) (sym c.u32_at-four.ensures) ∙ sym c.is_near.ensures ∙ not-true _ c.if-not-is_near.true-raw)
 
 pub all_zero-requires-2 : goal.all_zero-requires-2
 all_zero-requires-2 c =
     let size : length c.args.h.octets ≡ 1024 = search rules in
     (omega arith, omega arith)
 
-pub returns : goal.returns
-returns c =
+pub returns-then-not-h : goal.returns
+returns-then-not-h c =
     let h = c.args.h in
     c.all_zero-2.ensures
     ∙ marker-waits h (not-false _ c.if-not-h.false) (omega arith) (omega arith) (search rules) (omega arith)
-    (ap (near h.k) (sym c.u32_at-four.ensures) ∙ sym c.is_near.ensures ∙ not-false _ c.if-not-is_near.false)
+    (ap (near h.k) (sym c.u32_at-four.ensures) ∙ sym c.is_near.ensures ∙ not-false _ c.if-not-is_near.false-raw)

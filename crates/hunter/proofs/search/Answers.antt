@@ -1,5 +1,6 @@
 use mathlib.Core.Path.{◌≡◌, ◌∙◌}
 use native.Mathlib.Omega.{arith}
+use borrow.Author.Rules.{rules}
 use lib.ListN.{length}
 use Rattle.hunter.proofs.Hunting.{first-settled, first-hunt, few-hunt}
 use Rattle.hunter.proofs.search.Reads as reads
@@ -35,7 +36,7 @@ copy-requires c =
     let z = size (goal.at.copy-requires c).Start in
     omega arith
 
-pub returns : goal.returns
-returns c =
+pub returns-then-n-ge4 : goal.returns
+returns-then-n-ge4 c =
     let a = c.args in
     rw c.none_found.ensures (few-hunt a.h c.requires.sound a.portion.now a.buffer.now _ (omega arith) c.copy.ensures)

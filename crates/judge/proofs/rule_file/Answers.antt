@@ -2,6 +2,7 @@
 use mathlib.Core.Path.{◌≡◌, sym, ◌∙◌}
 use Prim.Native.Nat.{◌<◌}
 use native.Mathlib.Omega.{arith}
+use borrow.Author.Rules.{rules}
 use lib.ListN.{length}
 use Rattle.octets.proofs.Lists.{unmap}
 use Rattle.room.proofs.Find.{file-low}
@@ -40,6 +41,6 @@ returns-in_default-file c =
 pub rule_next-requires : goal.rule_next-requires
 rule_next-requires c = next_low c
 
-pub returns : goal.returns
-returns c =
+pub returns-in_default : goal.returns
+returns-in_default c =
     file-next _ _ _ _ _ c.file_of-file.ensures (sym c.starts_file.ensures ∙ c.if-starts_file.false) c.in-At-file.is c.rule_next.ensures

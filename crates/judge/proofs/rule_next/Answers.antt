@@ -6,8 +6,8 @@ use Rattle.judge.proofs.rule_next.Goals as goal
 
 pub returns-then-fits : goal.returns-then-fits
 unfolding goes_on
-returns-then-fits c = next-goes _ _ _ _ (sym c.before.fits2.ensures ∙ c.if-fits.true)
+returns-then-fits c = next-goes _ _ _ _ (sym c.fits.ensures ∙ c.if-fits.true)
 
-pub returns : goal.returns
+pub returns-then-fits : goal.returns
 unfolding goes_on
-returns c = next-ends _ _ _ _ (sym c.before.fits2.ensures ∙ c.if-fits.false)
+returns-then-fits c = next-ends _ _ _ _ (sym c.fits.ensures ∙ c.if-fits.false)

@@ -1,4 +1,5 @@
 -- `lines::event` meets its contract. Assumes nothing.
+use borrow.Author.Rules.{rules}
 use Rattle.text.proofs.Following.{behind}
 use Rattle.lines.proofs.event.Goals as goal
 

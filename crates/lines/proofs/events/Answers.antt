@@ -1,6 +1,7 @@
 -- `lines::events` meets its contract. What is written so far, and the lines of the events that are left, is the whole. Assumes nothing.
 use Prim.Native.Nat.{◌-◌}
 use native.Mathlib.Omega.{arith}
+use borrow.Author.Rules.{rules}
 use Rattle.lines.proofs.Telling.{lining-none, lining-more, lining-all}
 use Rattle.lines.proofs.events.Goals as goal
 

@@ -1,4 +1,5 @@
 -- `lines::frame_lines` meets its contract. Assumes nothing.
+use borrow.Author.Rules.{rules}
 use Rattle.text.proofs.Following.{behind}
 use Rattle.lines.proofs.frame_lines.Goals as goal
 

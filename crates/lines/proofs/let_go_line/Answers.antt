@@ -1,4 +1,5 @@
 -- `lines::let_go_line` meets its contract. Assumes nothing.
+use borrow.Author.Rules.{rules}
 use Rattle.text.proofs.Following.{behind}
 use Rattle.lines.proofs.let_go_line.Goals as goal
 

@@ -1,4 +1,5 @@
 -- `lines::read_line` meets its contract. Assumes nothing.
+use borrow.Author.Rules.{rules}
 use Rattle.text.proofs.Following.{behind}
 use Rattle.lines.proofs.Telling.{no-octets, no_length, some-octets}
 use Rattle.lines.proofs.read_line.Goals as goal
@@ -21,7 +22,7 @@ returns-then-read-eq0 c =
 slice-aggregate-word : tie.Need-slice-aggregate-word
 slice-aggregate-word c = search rules
 
-pub returns : goal.returns
-returns c =
+pub returns-then-answer-ne0 : goal.returns
+returns-then-answer-ne0 c =
     let head = behind c.with_number-last.ensures.1 (behind c.word-space.ensures c.hex_octets-end.ensures.1) in
     (search rules, some-octets _ c.before.before.before.before.before.before.before.before.before.before.before.before.before.before.before.before.before.before.before.before.before.before.args.read.now c.before.before.before.before.before.before.before.before.before.before.before.before.before.before.if1.false c.if-read-eq0.false (behind head c.line_end-2.ensures.1))

@@ -4,6 +4,7 @@ use mathlib.Core.Bool.{Bool}
 use mathlib.Core.List.{List, [], ◌∷◌}
 use Prim.Native.Nat.{ℕ, ◌+◌, ◌≤◌}
 use native.Mathlib.Omega.{arith}
+use borrow.Author.Rules.{rules}
 use borrow.Author.Tests.{eq-eqb, ne_eqb}
 use Rattle.octets.specs.Choice.{if◌then◌else◌}
 use Rattle.text.specs.Pieces.{Written}
@@ -33,8 +34,8 @@ returns-then-complete c =
 slice-aggregate-word-2 : tie.Need-slice-aggregate-word-2
 slice-aggregate-word-2 c = search rules
 
-pub returns : goal.returns
-returns c =
+pub returns-then-answer-ne0 : goal.returns
+returns-then-answer-ne0 c =
     let a = c.before.before.before.before.before.before.before.before.args in
     told a.answer a.complete c.before.before.before.before.before.before.if1.false
     (rw c.if-complete.false c.word-2.ensures)

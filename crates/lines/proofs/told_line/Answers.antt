@@ -1,5 +1,6 @@
 -- `lines::told_line` meets its contract. Assumes nothing.
 use mathlib.Core.List.{flat_map}
+use borrow.Author.Rules.{rules}
 use Rattle.text.proofs.Following.{behind, nothing}
 use Rattle.lines.proofs.told_line.Goals as goal
 

@@ -3,6 +3,7 @@
 use mathlib.Core.Path.{refl, ◌∙◌}
 use Prim.Native.Nat.{◌-◌}
 use native.Mathlib.Omega.{arith}
+use borrow.Author.Rules.{rules}
 use Rattle.noise.specs.Noise.{mixed}
 use Rattle.noise.proofs.Mixing.{frame-none, frame-more, frame-all}
 use Rattle.noise.proofs.mix.Goals as goal

@@ -1,6 +1,7 @@
 -- `count_owners` meets its contract, by the tally and what it tells. Assumes nothing.
 use mathlib.Core.Path.{◌∙◌}
 use native.Mathlib.Omega.{arith}
+use borrow.Author.Rules.{rules}
 use lib.ListN.{take}
 use Rattle.octets.proofs.Numbers.{octets-take}
 use Rattle.owners.proofs.Counts.{slots_counts, strays}

@@ -3,6 +3,7 @@
 use mathlib.Core.Path.{refl}
 use Prim.Native.Nat.{◌-◌}
 use native.Mathlib.Omega.{arith}
+use borrow.Author.Rules.{rules}
 use Rattle.octets.proofs.Zero.{gather-more, gather-all}
 use Rattle.owners.proofs.no_strays.Goals as goal
 

@@ -5,6 +5,7 @@ use mathlib.Core.List.{List}
 use Prim.Native.Nat.{ℕ, ◌+◌, ◌-◌, ◌<◌}
 use native.Mathlib.Numerals.{add-one}
 use native.Mathlib.Omega.{arith}
+use borrow.Author.Rules.{rules}
 use lib.ListN.{length, get_or, set, take, drop, length-drop}
 use lib.Seq.{take_all, take-suc, take-suc-set, get_or-drop}
 use Rattle.octets.specs.Number.{part}

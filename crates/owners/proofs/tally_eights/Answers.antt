@@ -2,6 +2,7 @@
 -- blocks. Assumes nothing.
 use Prim.Native.Nat.{◌+◌, ◌-◌}
 use native.Mathlib.Omega.{arith}
+use borrow.Author.Rules.{rules}
 use Rattle.owners.proofs.Counts.{tallied-at}
 use Rattle.owners.proofs.tally_eights.Goals as goal
 

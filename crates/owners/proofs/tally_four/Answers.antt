@@ -1,6 +1,7 @@
 -- `tally_four` meets its contract: four times the promise of `tally_block`. Assumes nothing.
 use native.Mathlib.Nat.{add_assoc}
 use native.Mathlib.Omega.{arith}
+use borrow.Author.Rules.{rules}
 use Rattle.owners.proofs.tally_four.Goals as goal
 
 pub tally_block-requires-3 : goal.tally_block-requires-3

@@ -3,6 +3,7 @@
 use mathlib.Core.Path.{◌≡◌}
 use Prim.Native.Nat.{◌-◌}
 use native.Mathlib.Omega.{arith}
+use borrow.Author.Rules.{rules}
 use Rattle.owners.proofs.Counts.{tallied-none}
 use Rattle.owners.proofs.tally_owners.Goals as goal
 

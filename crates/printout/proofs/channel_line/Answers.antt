@@ -1,4 +1,5 @@
 -- `printout::channel_line` meets its contract. Assumes nothing.
+use borrow.Author.Rules.{rules}
 use Rattle.text.proofs.Following.{behind}
 use Rattle.printout.proofs.channel_line.Goals as goal
 

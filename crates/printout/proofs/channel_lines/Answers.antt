@@ -1,6 +1,7 @@
 -- `printout::channel_lines` meets its contract. Assumes nothing.
 use Prim.Native.Nat.{◌-◌}
 use native.Mathlib.Omega.{arith}
+use borrow.Author.Rules.{rules}
 use Rattle.printout.proofs.Lines.{listing_none, listing-more, listing-all}
 use Rattle.printout.proofs.channel_lines.Goals as goal
 

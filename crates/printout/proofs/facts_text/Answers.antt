@@ -1,4 +1,5 @@
 -- `printout::facts_text` meets its contract. Assumes nothing.
+use borrow.Author.Rules.{rules}
 use Rattle.text.proofs.Following.{behind}
 use Rattle.printout.proofs.facts_text.Goals as goal
 

@@ -1,4 +1,5 @@
 -- `printout::image_text` meets its contract. Assumes nothing.
+use borrow.Author.Rules.{rules}
 use Rattle.text.proofs.Following.{behind, nothing}
 use Rattle.printout.proofs.image_text.Goals as goal
 
@@ -21,6 +22,6 @@ slice-aggregate-two-numbers-3 c = search rules
 slice-aggregate-two-numbers-4 : tie.Need-slice-aggregate-two-numbers-4
 slice-aggregate-two-numbers-4 c = search rules
 
-pub returns : goal.returns
-returns c =
+pub returns-in_default : goal.returns
+returns-in_default c =
     (search rules, rw c.in-There.is (behind c.two_numbers-size.ensures.1 c.two_numbers.ensures.1))

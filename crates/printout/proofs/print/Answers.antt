@@ -1,6 +1,7 @@
 -- `printout::print` meets its contract. Assumes nothing.
 -- the octets read, from where a catalogue was found in them
 use native.Mathlib.Omega.{arith}
+use borrow.Author.Rules.{rules}
 use Rattle.catalogue.specs.Reading.{Lies}
 use Rattle.printout.proofs.Whole.{Few, lies, few, printed-all, printed-none}
 use Rattle.printout.proofs.print.Goals as goal

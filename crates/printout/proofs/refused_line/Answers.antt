@@ -1,4 +1,5 @@
 -- `printout::refused_line` meets its contract. Assumes nothing.
+use borrow.Author.Rules.{rules}
 use Rattle.text.proofs.Following.{behind}
 use Rattle.printout.proofs.refused_line.Goals as goal
 

@@ -1,4 +1,5 @@
 -- `printout::two_numbers` meets its contract. Assumes nothing.
+use borrow.Author.Rules.{rules}
 use Rattle.text.proofs.Following.{behind}
 use Rattle.printout.proofs.two_numbers.Goals as goal
 

@@ -1,4 +1,5 @@
 -- `readout::fields` meets its contract. Assumes nothing.
+use borrow.Author.Rules.{rules}
 use Rattle.text.proofs.Following.{behind}
 use Rattle.readout.specs.Readout.{fields_text}
 use Rattle.readout.proofs.fields.Goals as goal

@@ -1,4 +1,5 @@
 -- `readout::header_answer` meets its contract. Assumes nothing.
+use borrow.Author.Rules.{rules}
 use Rattle.readout.specs.Readout.{header_text}
 use Rattle.readout.proofs.header_answer.Goals as goal
 

@@ -1,4 +1,5 @@
 -- `readout::image` meets its contract. Assumes nothing.
+use borrow.Author.Rules.{rules}
 use Rattle.text.proofs.Following.{behind, nothing}
 use Rattle.readout.specs.Readout.{image_text}
 use Rattle.readout.proofs.image.Goals as goal
@@ -11,9 +12,9 @@ returns-in_default c = (search rules, rw c.in_default.is (nothing _ _))
 slice-aggregate-with-three : tie.Need-slice-aggregate-with-three
 slice-aggregate-with-three c = search rules
 
-pub returns : goal.returns
+pub returns-in_default : goal.returns
 unfolding image_text
-returns c = (
+returns-in_default c = (
   search rules,
   let at_i = (goal.at.returns c).In-There in
       rw at_i.i.given.1 (behind c.with_three-third.ensures.1 c.number.ensures.1),

@@ -1,4 +1,5 @@
 -- `readout::named` meets its contract. Assumes nothing.
+use borrow.Author.Rules.{rules}
 use Rattle.text.proofs.Following.{behind}
 use Rattle.readout.proofs.named.Goals as goal
 

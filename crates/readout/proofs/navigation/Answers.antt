@@ -1,4 +1,5 @@
 -- `readout::navigation` meets its contract. Assumes nothing.
+use borrow.Author.Rules.{rules}
 use Rattle.text.proofs.Following.{nothing, behind}
 use Rattle.readout.specs.Readout.{navigation_text}
 use Rattle.readout.proofs.Signs.{same-field}
@@ -8,9 +9,9 @@ pub returns-in_default : goal.returns-in_default
 unfolding navigation_text
 returns-in_default c = (search rules, rw c.in_default.is (nothing _ _))
 
-pub returns : goal.returns
+pub returns-in_default : goal.returns
 unfolding navigation_text
-returns c = (
+returns-in_default c = (
   search rules,
   let at-struct-told = (goal.at.returns c).After-named-first in
       let at_named = at-struct-told.before.before.before.before in

@@ -1,4 +1,5 @@
 -- `readout::primary` meets its contract. Assumes nothing.
+use borrow.Author.Rules.{rules}
 use Rattle.readout.specs.Readout.{primary_text}
 use Rattle.readout.proofs.primary.Goals as goal
 

@@ -1,5 +1,6 @@
 -- `readout::record_answer` meets its contract. Assumes nothing.
 use mathlib.Core.Path.{sym, ◌∙◌}
+use borrow.Author.Rules.{rules}
 use Rattle.octets.proofs.Lists.{whole-rest}
 use Rattle.text.proofs.Following.{behind}
 use Rattle.readout.specs.Readout.{record_text}

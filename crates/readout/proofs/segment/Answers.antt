@@ -1,4 +1,5 @@
 -- `readout::segment` meets its contract. Assumes nothing.
+use borrow.Author.Rules.{rules}
 use Rattle.text.proofs.Following.{nothing}
 use Rattle.readout.specs.Readout.{segment_text}
 use Rattle.readout.proofs.segment.Goals as goal
@@ -11,9 +12,9 @@ returns-in_default c = (search rules, rw c.in_default.is (nothing _ _))
 slice-aggregate-with-three : tie.Need-slice-aggregate-with-three
 slice-aggregate-with-three c = search rules
 
-pub returns : goal.returns
+pub returns-in_default : goal.returns
 unfolding segment_text
-returns c = (
+returns-in_default c = (
   search rules,
   rw c.in-There.is c.with_three.ensures.1,
 )

@@ -1,4 +1,5 @@
 -- `readout::signed` meets its contract. Assumes nothing.
+use borrow.Author.Rules.{rules}
 use Rattle.readout.specs.Readout.{signed_text}
 use mir.Facts.{to_z-of_z}
 use Rattle.readout.proofs.signed.Goals as goal

@@ -1,4 +1,5 @@
 -- `readout::signed_pair` meets its contract. Assumes nothing.
+use borrow.Author.Rules.{rules}
 use Rattle.text.proofs.Following.{behind}
 use mir.Facts.{to_z-of_z}
 use Rattle.readout.proofs.signed_pair.Goals as goal

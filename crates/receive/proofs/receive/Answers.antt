@@ -1,5 +1,6 @@
 -- `receive::receive` meets its contract, by that of `take_frame`; there is room for the lines of its events. Assumes nothing.
 use mathlib.Core.Path.{◌∙◌}
+use borrow.Author.Rules.{rules}
 use Rattle.octets.proofs.Lists.{unmap}
 use Rattle.state.specs.Sound.{Sized}
 use Rattle.station.proofs.Frames.{few-told}

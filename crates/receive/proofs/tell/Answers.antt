@@ -1,4 +1,5 @@
 -- `receive::tell` meets its contract. Assumes nothing.
+use borrow.Author.Rules.{rules}
 use Rattle.text.proofs.Following.{behind}
 use Rattle.receive.proofs.tell.Goals as goal
 

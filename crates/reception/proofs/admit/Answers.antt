@@ -3,6 +3,7 @@ use mathlib.Core.Path.{◌≡◌, sym, ◌∙◌}
 use mathlib.Core.Bool.{true}
 use mathlib.Core.List.{List}
 use Prim.Native.Nat.{ℕ}
+use borrow.Author.Rules.{rules}
 use lib.ListN.{take}
 use Rattle.octets.proofs.Lists.{unmap}
 use Rattle.octets.proofs.Tests.{denied, granted}
@@ -35,20 +36,20 @@ abbrev start : Else-not-lent_right → Start
 start l = (goal.at.Else-not-lent_right l).Start
 
 lent : (l : Else-not-lent_right) → lent_right (state (start l)) (start l).args.desks.now (start l).args.store.now (start l).args.list.now ≡ true
-lent l = granted l.lent_right.ensures l.if-not-lent_right.false
+lent l = granted l.lent_right.ensures l.if-not-lent_right.false-raw
 
 abbrev fits : Else-not-are_parts_sound → Else-not-lent_right
 fits e = (goal.at.Else-not-are_parts_sound e).Else-not-lent_right
 
 sound : (e : Else-not-are_parts_sound) → is_sound (state (start (fits e))) ≡ true
-sound e = granted e.are_parts_sound.ensures e.if-not-are_parts_sound.false
+sound e = granted e.are_parts_sound.ensures e.if-not-are_parts_sound.false-raw
 
 abbrev steady : Else-not-are_desks_sound → Else-not-are_parts_sound
 steady d = (goal.at.Else-not-are_desks_sound d).Else-not-are_parts_sound
 
 orderly : (d : Else-not-are_desks_sound)
     → (let i = start (fits (steady d)) in desks_held 0 (take i.args.head.channels i.args.head.desks) i.args.desks.now) ≡ true
-orderly d = granted d.are_desks_sound.ensures d.if-not-are_desks_sound.false
+orderly d = granted d.are_desks_sound.ensures d.if-not-are_desks_sound.false-raw
 
 -- the scratch octets, where a frame was found good
 plain-good : (craft : ℕ) (watched : List Channel) (f before : List ℕ) {plain : List ℕ} {x : Examined} → x ≡ examined craft watched f
@@ -57,11 +58,11 @@ plain-good craft watched f before e p a g = p ∙ plain-framed f before (good-fr
 
 pub returns-then-not-lent_right : goal.returns-then-not-lent_right
 returns-then-not-lent_right c =
-    let wrong = denied c.lent_right.ensures c.if-not-lent_right.true in
+    let wrong = denied c.lent_right.ensures c.if-not-lent_right.true-raw in
     (refused-lent (state (goal.at.returns-then-not-lent_right c).Start) c.args.desks.now c.args.store.now c.args.list.now c.args.octets.now wrong, λ a e. cc)
 
 pub returns-then-not-are_parts_sound : goal.returns-then-not-are_parts_sound
-returns-then-not-are_parts_sound c = (refused-state _ _ _ _ _ (lent (goal.at.returns-then-not-are_parts_sound c).Else-not-lent_right) (denied c.are_parts_sound.ensures c.if-not-are_parts_sound.true), λ a e. cc)
+returns-then-not-are_parts_sound c = (refused-state _ _ _ _ _ (lent (goal.at.returns-then-not-are_parts_sound c).Else-not-lent_right) (denied c.are_parts_sound.ensures c.if-not-are_parts_sound.true-raw), λ a e. cc)
 
 pub are_desks_sound-requires : goal.are_desks_sound-requires
 are_desks_sound-requires c =
@@ -73,15 +74,15 @@ are_desks_sound-requires c =
 
 pub returns-then-not-are_desks_sound : goal.returns-then-not-are_desks_sound
 returns-then-not-are_desks_sound c =
-    (refused-desks _ _ _ _ _ (lent (fits (goal.at.returns-then-not-are_desks_sound c).Else-not-are_parts_sound)) (sound (goal.at.returns-then-not-are_desks_sound c).Else-not-are_parts_sound) (denied c.are_desks_sound.ensures c.if-not-are_desks_sound.true), λ a (goal.at.returns-then-not-are_desks_sound c).Else-not-are_parts_sound. cc)
+    (refused-desks _ _ _ _ _ (lent (fits (goal.at.returns-then-not-are_desks_sound c).Else-not-are_parts_sound)) (sound (goal.at.returns-then-not-are_desks_sound c).Else-not-are_parts_sound) (denied c.are_desks_sound.ensures c.if-not-are_desks_sound.true-raw), λ a (goal.at.returns-then-not-are_desks_sound c).Else-not-are_parts_sound. cc)
 
 pub examine-requires : goal.examine-requires
 examine-requires c =
     let e = steady (goal.at.examine-requires c).Else-not-are_desks_sound in
     (search rules, channels-few _ (sized (start (fits e))) (sound e))
 
-pub returns : goal.returns
-returns c =
+pub returns-then-not-lent_right : goal.returns
+returns-then-not-lent_right c =
     let told = c.examine.ensures in
     record {
   value = told.0 ∙ as-examined _ _ _ _ _ (lent (fits (steady (goal.at.returns c).Else-not-are_desks_sound))) (sound (steady (goal.at.returns c).Else-not-are_desks_sound)) (orderly (goal.at.returns c).Else-not-are_desks_sound);

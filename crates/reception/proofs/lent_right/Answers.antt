@@ -8,10 +8,10 @@ returns-then-desks-channels c = rw (ne_eqb _ _ c.if-desks-channels.true)
 
 pub returns-then-not-store_fits : goal.returns-then-not-store_fits
 returns-then-not-store_fits c =
-    let e = sym c.store_fits.ensures ∙ not-true _ c.if-not-store_fits.true in
+    let e = sym c.store_fits.ensures ∙ not-true _ c.if-not-store_fits.true-raw in
     rw (eq-eqb _ _ c.if-desks-channels.false, e)
 
-pub returns : goal.returns
-returns c =
-    let e = sym c.store_fits.ensures ∙ not-false _ c.if-not-store_fits.false in
+pub returns-then-desks-channels : goal.returns
+returns-then-desks-channels c =
+    let e = sym c.store_fits.ensures ∙ not-false _ c.if-not-store_fits.false-raw in
     rw (eq-eqb _ _ c.if-desks-channels.false, e)

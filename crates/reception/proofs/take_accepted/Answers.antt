@@ -1,4 +1,5 @@
 -- `take_accepted` meets its contract, by that of the walk. Assumes nothing.
+use borrow.Author.Rules.{rules}
 use Rattle.state.specs.Slots.{station_of}
 use Rattle.station.proofs.Frames.{walk-taken}
 use Rattle.reception.proofs.take_accepted.Goals as goal

@@ -1,5 +1,6 @@
 -- `take_parts` meets its contract: a frame is refused and nothing changes, or its zone is walked. Assumes nothing.
 use mathlib.Core.Path.{sym, ◌∙◌}
+use borrow.Author.Rules.{rules}
 use Rattle.octets.proofs.Lists.{unmap}
 use Rattle.state.specs.declared.Station.{Station}
 use Rattle.state.specs.Slots.{station_of}

@@ -2,6 +2,7 @@
 use mathlib.Core.Path.{sym, ◌∙◌}
 use Prim.Native.Nat.{◌-◌}
 use native.Mathlib.Omega.{arith}
+use borrow.Author.Rules.{rules}
 use Rattle.octets.proofs.Lists.{unmap}
 use Rattle.room.proofs.Find.{file-begins, seeking-on, seeking-here, seeking-none}
 use Rattle.room.proofs.file_of.Goals as goal
@@ -19,5 +20,5 @@ loop-k-preserved c =
     let m = c.loop-k.invariant in
     seeking-on m (omega arith) (sym c.is_incomplete_of.ensures ∙ c.if-is_incomplete_of.false)
 
-pub returns : goal.returns
-returns c = seeking-none c.loop-k.invariant (omega arith)
+pub returns-then-is_incomplete_of : goal.returns
+returns-then-is_incomplete_of c = seeking-none c.loop-k.invariant (omega arith)

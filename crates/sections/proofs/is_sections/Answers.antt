@@ -19,22 +19,22 @@ pub fits-requires : goal.fits-requires
 fits-requires c = (omega arith, omega (arith, c.type_inv.sizes c.loop-k.k))
 
 pub returns-then-not-fits : goal.returns-then-not-fits
-returns-then-not-fits c = chain-bad c.loop-k.invariant (omega arith) (denied c.before.fits2.ensures c.if-not-fits.true)
+returns-then-not-fits c = chain-bad c.loop-k.invariant (omega arith) (denied c.fits.ensures c.if-not-fits.true-raw)
 
 pub u16_at-requires : goal.u16_at-requires
-u16_at-requires c = omega (arith, chain-room c.loop-k.invariant (omega arith) c.before.fits2.ensures (not-false _ c.if-not-fits.false) (number_at c.args.s.now c.loop-k.p 2) refl)
+u16_at-requires c = omega (arith, chain-room c.loop-k.invariant (omega arith) c.fits.ensures (not-false _ c.if-not-fits.false-raw) (number_at c.args.s.now c.loop-k.p 2) refl)
 
 pub overflow_mul-p : goal.overflow_mul-p
-overflow_mul-p c = omega (arith, chain-room c.loop-k.invariant (omega arith) c.before.before.fits2.ensures (not-false _ c.if-not-fits.false) _ c.u16_at.ensures)
+overflow_mul-p c = omega (arith, chain-room c.loop-k.invariant (omega arith) c.fits.ensures (not-false _ c.if-not-fits.false-raw) _ c.u16_at.ensures)
 
 pub overflow_add-p : goal.overflow_add-p
-overflow_add-p c = omega (arith, chain-room c.loop-k.invariant (omega arith) c.before.before.fits2.ensures (not-false _ c.if-not-fits.false) _ c.u16_at.ensures)
+overflow_add-p c = omega (arith, chain-room c.loop-k.invariant (omega arith) c.fits.ensures (not-false _ c.if-not-fits.false-raw) _ c.u16_at.ensures)
 
 pub overflow_add-p-in-loop-k : goal.overflow_add-p-in-loop-k
-overflow_add-p-in-loop-k c = omega (arith, chain-room c.loop-k.invariant (omega arith) c.before.before.fits2.ensures (not-false _ c.if-not-fits.false) _ c.u16_at.ensures)
+overflow_add-p-in-loop-k c = omega (arith, chain-room c.loop-k.invariant (omega arith) c.fits.ensures (not-false _ c.if-not-fits.false-raw) _ c.u16_at.ensures)
 
 pub loop-k-preserved : goal.loop-k-preserved
-loop-k-preserved c = chain_more c.loop-k.invariant (omega arith) c.before.before.fits2.ensures (not-false _ c.if-not-fits.false) _ c.u16_at.ensures
+loop-k-preserved c = chain_more c.loop-k.invariant (omega arith) c.fits.ensures (not-false _ c.if-not-fits.false-raw) _ c.u16_at.ensures
 
-pub returns : goal.returns
-returns c = chain-end c.loop-k.invariant (omega arith)
+pub returns-then-not-fits : goal.returns
+returns-then-not-fits c = chain-end c.loop-k.invariant (omega arith)

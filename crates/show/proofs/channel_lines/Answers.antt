@@ -2,6 +2,7 @@
 -- nothing.
 use Prim.Native.Nat.{◌-◌}
 use native.Mathlib.Omega.{arith}
+use borrow.Author.Rules.{rules}
 use Rattle.octets.proofs.Lists.{unmap}
 use Rattle.show.proofs.Showing.{channelling-none, channelling-line, channelling-all}
 use Rattle.show.proofs.channel_lines.Goals as goal

@@ -1,4 +1,5 @@
 -- `show::head_line` meets its contract. Assumes nothing.
+use borrow.Author.Rules.{rules}
 use Rattle.text.proofs.Following.{behind}
 use Rattle.show.proofs.head_line.Goals as goal
 

@@ -1,5 +1,6 @@
 -- `show::slot_line` meets its contract. Assumes nothing.
 use native.Mathlib.Omega.{arith}
+use borrow.Author.Rules.{rules}
 use Rattle.text.proofs.Following.{behind}
 use Rattle.show.proofs.slot_line.Goals as goal
 

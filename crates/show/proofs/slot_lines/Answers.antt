@@ -2,6 +2,7 @@
 use mathlib.Core.Path.{sym, ◌∙◌}
 use Prim.Native.Nat.{◌-◌}
 use native.Mathlib.Omega.{arith}
+use borrow.Author.Rules.{rules}
 use Rattle.octets.proofs.Lists.{unmap}
 use Rattle.show.proofs.Showing.{slotting-none, slotting-room, slotting-line, slotting-skip, slotting-all, slotting-few}
 use Rattle.show.proofs.slot_lines.Goals as goal

@@ -6,6 +6,7 @@ use mathlib.Core.Bool.{true, false}
 use mathlib.Core.List.{List}
 use Prim.Native.Nat.{ℕ, ◌≤◌, ◌<◌}
 use native.Mathlib.Omega.{arith}
+use borrow.Author.Rules.{rules}
 use borrow.Author.Tests.{lt-leb, le-leb, lt-ltb, le-ltb}
 use lib.Dec.{eqb}
 use Rattle.octets.proofs.Tests.{denied, granted}
@@ -62,7 +63,7 @@ returns-in_default c =
     let high = no-count _ c.checked-checked.ensures c.in_default.is in
     sym (uncounted _ _ _ (search rules) (omega arith) (search granted) (omega arith) (search granted) high)
 
-pub returns : goal.returns
-returns c =
+pub returns-then-x-need : goal.returns
+returns-then-x-need c =
     let low = made-count _ c.checked-checked.ensures c.in-Good.is in
     sym (counted _ _ _ (search rules) (omega arith) (search granted) (omega arith) (search granted) (omega arith) low)

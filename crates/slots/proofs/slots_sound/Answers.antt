@@ -7,6 +7,7 @@ use mathlib.Core.List.{List, [], ◌∷◌}
 use Prim.Native.Nat.{ℕ, suc, ◌+◌, ◌-◌, ◌<◌}
 use native.Mathlib.Numerals.{add-one}
 use native.Mathlib.Omega.{arith}
+use borrow.Author.Rules.{rules}
 use lib.ListN.{length, get_or, drop}
 use lib.Seq.{drop-cons}
 use Rattle.octets.proofs.Lists.{unmap}
@@ -88,7 +89,7 @@ loop-k-init c = (search rules, begins-at _ _ _ 0 (search (rules, unmap)) (omega 
 
 pub returns-then-not-slot_sound : goal.returns-then-not-slot_sound
 returns-then-not-slot_sound c =
-    let no = unsound _ _ _ _ (denied c.slot_sound.ensures c.if-not-slot_sound.true) in
+    let no = unsound _ _ _ _ (denied c.slot_sound.ensures c.if-not-slot_sound.true-raw) in
     refused _ _ _ _ c.loop-k.invariant (search (rules, unmap)) (omega arith) no
 
 pub loop-j-init : goal.loop-j-init
@@ -108,15 +109,15 @@ loop-j-preserved c =
 
 pub loop-k-preserved-then-is_incomplete : goal.loop-k-preserved-then-is_incomplete
 loop-k-preserved-then-is_incomplete c =
-    let sound = granted c.slot_sound.ensures c.if-not-slot_sound.false in
+    let sound = granted c.slot_sound.ensures c.if-not-slot_sound.false-raw in
     let yes = has-none _ _ _ _ sound (ended c.loop-j.invariant (omega arith) (twin-end _)) in
     let-pass _ _ _ _ c.loop-k.invariant (search (rules, unmap)) (omega arith) yes
 
 pub loop-k-preserved : goal.loop-k-preserved
 loop-k-preserved c =
-    let sound = granted c.slot_sound.ensures c.if-not-slot_sound.false in
+    let sound = granted c.slot_sound.ensures c.if-not-slot_sound.false-raw in
     let yes = wants-none _ _ _ _ sound (sym c.is_incomplete.ensures ∙ c.if-is_incomplete.false) in
     let-pass _ _ _ _ c.loop-k.invariant (search (rules, unmap)) (omega arith) yes
 
-pub returns : goal.returns
-returns c = ended c.loop-k.invariant.1 (omega arith) (slots_end _ _)
+pub returns-then-not-slot_sound : goal.returns
+returns-then-not-slot_sound c = ended c.loop-k.invariant.1 (omega arith) (slots_end _ _)

@@ -5,6 +5,7 @@ use mathlib.Core.Bool.{Bool, true, false, ◌&&◌}
 use mathlib.Core.List.{List, map}
 use Prim.Native.Nat.{ℕ, ◌-◌, ◌≤◌}
 use native.Mathlib.Omega.{arith}
+use borrow.Author.Rules.{rules}
 use borrow.Author.Tests.{leb-true}
 use lib.Dec.{leb}
 use lib.ListN.{take}
@@ -60,7 +61,7 @@ returns-then-not-set_up_sound c = sym (no-set-up _ c.numbers-names.ensures (sear
 
 pub count_owners-owners-requires : goal.count_owners-owners-requires
 count_owners-owners-requires c =
-    let store = set-store _ _ _ (granted c.set_up_sound.ensures c.if-not-set_up_sound.false) in
+    let store = set-store _ _ _ (granted c.set_up_sound.ensures c.if-not-set_up_sound.false-raw) in
     search rules
 
 pub returns-then-not-owners : goal.returns-then-not-owners
@@ -82,8 +83,8 @@ pub desks_hold-requires : goal.desks_hold-requires
 desks_hold-requires c =
     omega (arith, set-few _ _ _ (granted up.before.set-up-sound.ensures up.if1.false))
 
-pub returns : goal.returns
-returns c =
+pub returns-then-not-set_up_sound : goal.returns
+returns-then-not-set_up_sound c =
     let named = counted.before.before.before.before.before.numbers.ensures in
     c.desks_hold.ensures
     ∙ sym (desks _ named (search granted) (search granted) counted.count-owners.ensures.1 (search granted))

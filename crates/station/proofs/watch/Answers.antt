@@ -7,6 +7,7 @@ use Prim.Native.Nat.{ℕ, zero, suc, ◌+◌, ◌-◌, ◌≤◌, ◌<◌}
 use native.Mathlib.Nat.{sub-zero, zero-sub, suc-sub-suc}
 use native.Mathlib.Numerals.{add-one}
 use native.Mathlib.Omega.{arith}
+use borrow.Author.Rules.{rules}
 use lib.ListN.{length, get_or, set, take, drop, replicate, drop_of_length-le, take-append-drop}
 use lib.Seq.{drop-cons, take-suc-set, drop-set-lt, append_snoc}
 use Rattle.frame.specs.declared.Channel.{Channel}
@@ -49,6 +50,6 @@ loop-i-preserved c =
     let channels : List ℕ = c.args.channels.now in
     (omega arith, omega arith, search rules, map_more channel_of channels c.loop-i.watched c.loop-i.i c.loop-i.invariant.3 0 made (omega arith) (omega arith))
 
-pub returns : goal.returns
-returns c =
+pub returns-in_default : goal.returns
+returns-in_default c =
     map-end channel_of c.args.channels.now c.loop-i.watched c.loop-i.i c.loop-i.invariant.3 (omega arith)

@@ -24,5 +24,5 @@ returns-in-Nowhere c =
     let a = c.args in
     leaps-nowhere a.portion.now a.k a.from a.v (omega arith) (omega arith) _ _ _
     (λ i. (c.type_inv.portion i).fits)
-    (granted c.is_quiet.ensures c.if-not-is_quiet.false) c.scan-s.ensures
+    (granted c.is_quiet.ensures c.if-not-is_quiet.false-raw) c.scan-s.ensures
     c.in-Nowhere.is c.u32_at.ensures

@@ -1,6 +1,7 @@
 use mathlib.Core.Path.{refl}
 use Prim.Native.Nat.{◌-◌}
 use native.Mathlib.Omega.{arith}
+use borrow.Author.Rules.{rules}
 use Rattle.stream.proofs.Stretches.{stretch-found, stretch-more, stretch-left}
 use Rattle.stream.proofs.seek.Reads as reads
 use Rattle.stream.proofs.seek.Lts as lts
@@ -21,7 +22,7 @@ loop-i-preserved c =
     let a = c.args in
     (omega arith, stretch-more a.portion.now a.k c.loop-i.i c.loop-i.four c.loop-i.invariant.1 16 (omega arith) c.leap-s.ensures _ c.in-Nowhere.is)
 
-pub returns : goal.returns
-returns c =
+pub returns-in-At : goal.returns
+returns-in-At c =
     let a = c.args in
     stretch-left a.portion.now a.k c.loop-i.i c.loop-i.four c.loop-i.invariant.1 c.scan.ensures

@@ -1,4 +1,5 @@
 -- `text::number` meets its contract. Assumes nothing.
+use borrow.Author.Rules.{rules}
 use Rattle.text.specs.Pieces.{spaced}
 use Rattle.text.proofs.Following.{behind}
 use Rattle.text.proofs.number.Goals as goal

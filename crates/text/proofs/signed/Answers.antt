@@ -1,4 +1,5 @@
 -- `text::signed` meets its contract. Assumes nothing.
+use borrow.Author.Rules.{rules}
 use Rattle.text.specs.Pieces.{spaced_signed}
 use Rattle.text.proofs.Following.{behind}
 use Rattle.text.proofs.signed.Goals as goal
@@ -13,6 +14,6 @@ returns-then-negative c =
     let w = behind c.word-sign.ensures c.decimal.ensures.1 in
     (search rules, rw c.if-negative.true w)
 
-pub returns : goal.returns
+pub returns-then-negative : goal.returns
 unfolding spaced_signed
-returns c = (search rules, rw c.if-negative.false c.number.ensures.1)
+returns-then-negative c = (search rules, rw c.if-negative.false c.number.ensures.1)

@@ -1,4 +1,5 @@
 -- `text::with_number` meets its contract. Assumes nothing.
+use borrow.Author.Rules.{rules}
 use Rattle.text.proofs.Following.{behind}
 use Rattle.text.proofs.with_number.Goals as goal
 

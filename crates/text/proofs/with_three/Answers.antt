@@ -1,4 +1,5 @@
 -- `text::with_three` meets its contract. Assumes nothing.
+use borrow.Author.Rules.{rules}
 use Rattle.text.proofs.Following.{behind}
 use Rattle.text.proofs.with_three.Goals as goal
 

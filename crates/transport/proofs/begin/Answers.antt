@@ -13,7 +13,7 @@ ready : (c : Else-not-good_length) → LengthRight c.args.«data».now c.read-t.
 ready c = record {
   long = omega arith;
   is = c.read-t.ensures;
-  good = granted c.good_length.ensures c.if-not-good_length.false;
+  good = granted c.good_length.ensures c.if-not-good_length.false-raw;
 }
 
 pub returns-then-data-lt-HEADER : goal.returns-then-data-lt-HEADER
@@ -21,7 +21,7 @@ unfolding begun_of
 returns-then-data-lt-HEADER c = search tests
 
 pub returns-then-not-good_length : goal.returns-then-not-good_length
-returns-then-not-good_length c = length-wrong _ _ (omega arith) c.read-t.ensures (denied c.good_length.ensures c.if-not-good_length.true)
+returns-then-not-good_length c = length-wrong _ _ (omega arith) c.read-t.ensures (denied c.good_length.ensures c.if-not-good_length.true-raw)
 
 pub returns-then-first_fits : goal.returns-then-first_fits
 returns-then-first_fits c =
@@ -43,5 +43,5 @@ returns-then-flags-eq-WHOLE c =
     shape-decides _ (ready (goal.at.returns-then-flags-eq-WHOLE c).Else-not-good_length) false
     (rw (c.if-flags-eq-WHOLE.true, ← c.whole_fits.ensures, c.if-whole_fits.false))
 
-pub returns : goal.returns
-returns c = shape-decides _ (ready (goal.at.returns c).Else-not-good_length) false (rw (ne_eqb _ _ c.if-flags-eq-FIRST.false, ne_eqb _ _ c.if-flags-eq-WHOLE.false))
+pub returns-then-data-lt-HEADER : goal.returns
+returns-then-data-lt-HEADER c = shape-decides _ (ready (goal.at.returns c).Else-not-good_length) false (rw (ne_eqb _ _ c.if-flags-eq-FIRST.false, ne_eqb _ _ c.if-flags-eq-WHOLE.false))

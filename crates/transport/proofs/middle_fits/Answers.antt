@@ -9,16 +9,16 @@ use Rattle.transport.proofs.middle_fits.Goals as goal
 use Rattle.transport.proofs.middle_fits.Goals.{Else-not-follows}
 
 follows : (c : Else-not-follows) → count_follows c.args.last c.args.count ≡ true
-follows c = granted c.follows.ensures c.if-not-follows.false
+follows c = granted c.follows.ensures c.if-not-follows.false-raw
 
 pub returns-then-not-follows : goal.returns-then-not-follows
 unfolding middle_fits
-returns-then-not-follows c = rw (denied c.follows.ensures c.if-not-follows.true)
+returns-then-not-follows c = rw (denied c.follows.ensures c.if-not-follows.true-raw)
 
 pub returns-then-n-ne-BLOCK : goal.returns-then-n-ne-BLOCK
 unfolding middle_fits
 returns-then-n-ne-BLOCK c = rw (follows (goal.at.returns-then-n-ne-BLOCK c).Else-not-follows, ne_eqb _ _ c.if-n-ne-BLOCK.true)
 
-pub returns : goal.returns
+pub returns-then-not-follows : goal.returns
 unfolding middle_fits
-returns c = rw (follows (goal.at.returns c).Else-not-follows, eq-eqb _ _ c.if-n-ne-BLOCK.false, c.need.ensures)
+returns-then-not-follows c = rw (follows (goal.at.returns c).Else-not-follows, eq-eqb _ _ c.if-n-ne-BLOCK.false, c.need.ensures)

@@ -1,4 +1,5 @@
 -- `transport::need` meets its contract. Assumes nothing.
+use borrow.Author.Rules.{rules}
 use Rattle.transport.proofs.need.Goals as goal
 
 -- NOT TURNED

@@ -2,6 +2,7 @@
 use mathlib.Core.Path.{subst}
 use Prim.Native.Nat.{◌-◌}
 use native.Mathlib.Omega.{arith}
+use borrow.Author.Rules.{rules}
 use Rattle.trial.specs.Fetch.{Fetches}
 use Rattle.trial.proofs.follow.Goals as goal
 

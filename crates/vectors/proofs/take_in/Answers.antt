@@ -2,6 +2,7 @@
 use mathlib.Core.Path.{refl}
 use Prim.Native.Nat.{◌-◌}
 use native.Mathlib.Omega.{arith}
+use borrow.Author.Rules.{rules}
 use Rattle.vectors.specs.Kept.{kept}
 use Rattle.vectors.proofs.Coming.{came-more, came-all}
 use Rattle.vectors.proofs.take_in.Goals as goal

@@ -3,6 +3,7 @@
 use mathlib.Core.Path.{sym, ◌∙◌}
 use Prim.Native.Nat.{◌-◌}
 use native.Mathlib.Omega.{arith}
+use borrow.Author.Rules.{rules}
 use lib.ListN.{drop}
 use Rattle.octets.proofs.Lists.{unmap}
 use Rattle.state.specs.Slots.{station_of}

@@ -1,4 +1,5 @@
 -- `chase::calls::check_line` meets its contract. Assumes nothing.
+use borrow.Author.Rules.{rules}
 use Rattle.text.proofs.Following.{behind}
 use Rattle.chase.proofs.calls.check_line.Goals as goal
 

@@ -1,5 +1,6 @@
 -- `chase::calls::payload` meets its contract. Assumes nothing.
 use borrow.Author.Tests.{eq-eqb, ne_eqb, le-leb, lt-leb}
+use borrow.Author.Rules.{rules}
 use Rattle.chase.specs.Script.{payload_of}
 use Rattle.chase.proofs.calls.payload.Goals as goal
 
@@ -27,6 +28,6 @@ pub returns-then-letter-eq72 : goal.returns-then-letter-eq72
 unfolding payload_of
 returns-then-letter-eq72 c = search (rules, eq-eqb, ne_eqb)
 
-pub returns : goal.returns
+pub returns-then-x-gt2048 : goal.returns
 unfolding payload_of
-returns c = search (rules, ne_eqb)
+returns-then-x-gt2048 c = search (rules, ne_eqb)

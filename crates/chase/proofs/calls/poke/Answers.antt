@@ -3,6 +3,7 @@ use mathlib.Core.Path.{◌≡◌}
 use Prim.Native.Nat.{◌%◌, ◌^◌}
 use native.Mathlib.Omega.{arith}
 use borrow.Author.Tests.{eq-eqb, ne_eqb}
+use borrow.Author.Rules.{rules}
 use lib.Seq.{set_out}
 use lib.ListN.{length}
 use Rattle.chase.specs.Calls.{poked}
@@ -31,6 +32,6 @@ returns-else-i-lt1024 c =
     let size : length a.h.octets ≡ 1024 = search rules in
     rw (c.if-a-eq3.true, set_out a.h.octets a.x.b (a.x.d % 2 ^ 8) (omega arith))
 
-pub returns : goal.returns
+pub returns-then-a-eq0 : goal.returns
 unfolding poked
-returns c = search (rules, eq-eqb, ne_eqb)
+returns-then-a-eq0 c = search (rules, eq-eqb, ne_eqb)

@@ -1,6 +1,7 @@
 -- `clerk::answers::said_line` meets its contract. Assumes nothing.
 use mathlib.Core.Path.{◌≡◌}
 use native.Mathlib.Omega.{arith}
+use borrow.Author.Rules.{rules}
 use lib.ListN.{length}
 use Rattle.text.proofs.Following.{behind}
 use Rattle.clerk.proofs.Saying.{nothing-told, said-told}
@@ -14,8 +15,8 @@ slice_bounds-spaced_all-end c =
     let size : length c.before.before.before.before.before.before.before.before.before.args.s.numbers ≡ 6 = search rules in
     omega (arith, size)
 
-pub returns : goal.returns
-returns c =
+pub returns-then-n-eq0 : goal.returns
+returns-then-n-eq0 c =
     let a = c.before.before.before.before.before.before.before.before.before.before.before.before.before.before.before.before.before.before.args in
     let size : length a.s.numbers ≡ 6 = search rules in
     let line = behind (behind c.before.before.before.before.before.before.before.before.before.before.before.before.word2.ensures c.spaced_all-last.ensures.1) c.line_end.ensures.1 in

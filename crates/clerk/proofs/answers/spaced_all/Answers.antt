@@ -1,6 +1,7 @@
 -- `clerk::answers::spaced_all` meets its contract. Assumes nothing.
 use Prim.Native.Nat.{◌-◌}
 use native.Mathlib.Omega.{arith}
+use borrow.Author.Rules.{rules}
 use Rattle.clerk.proofs.Saying.{spacing-none, spacing-more, spacing-all}
 use Rattle.clerk.proofs.answers.spaced_all.Goals as goal
 

@@ -1,4 +1,5 @@
 -- `clerk::calls::carry_out` meets its contract. Assumes nothing.
+use borrow.Author.Rules.{rules}
 use Rattle.clerk.specs.Printed.{printed}
 use Rattle.clerk.proofs.calls.carry_out.Goals as goal
 

@@ -1,4 +1,5 @@
 -- `clerk::calls::payload` meets its contract. Assumes nothing.
+use borrow.Author.Rules.{rules}
 use borrow.Author.Tests.{eq-eqb, ne_eqb, le-leb, lt-leb}
 use Rattle.clerk.specs.Script.{payload_of}
 use Rattle.clerk.proofs.calls.payload.Goals as goal
@@ -19,6 +20,6 @@ pub returns-then-alone : goal.returns-then-alone
 unfolding payload_of
 returns-then-alone c = simp (ne_eqb _ _ c.if-letter-eq69.false, ne_eqb _ _ c.if-letter-eq87.false, ← c.alone.ensures, c.if-alone.true)
 
-pub returns : goal.returns
+pub returns-then-n-le-BUFFER : goal.returns
 unfolding payload_of
-returns c = simp (ne_eqb _ _ c.if-letter-eq69.false, ne_eqb _ _ c.if-letter-eq87.false, ← c.alone.ensures, c.if-alone.false)
+returns-then-n-le-BUFFER c = simp (ne_eqb _ _ c.if-letter-eq69.false, ne_eqb _ _ c.if-letter-eq87.false, ← c.alone.ensures, c.if-alone.false)

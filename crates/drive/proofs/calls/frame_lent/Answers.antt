@@ -1,5 +1,6 @@
 -- `drive::calls::frame_lent` meets its contract. Assumes nothing.
 use native.Mathlib.Omega.{arith}
+use borrow.Author.Rules.{rules}
 use Rattle.octets.proofs.Lists.{unmap}
 use Rattle.state.specs.Sound.{Sized}
 use Rattle.station.proofs.Handed.{went_on}

@@ -1,4 +1,5 @@
 -- `drive::calls::read_lent` meets its contract. Assumes nothing.
+use borrow.Author.Rules.{rules}
 use Rattle.drive.proofs.Outcomes.{read_told}
 use Rattle.drive.proofs.calls.read_lent.Goals as goal
 

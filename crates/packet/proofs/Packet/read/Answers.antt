@@ -1,6 +1,7 @@
 -- `packet::Packet::read` meets its contract: each field is a part of a number of two octets, and keeps to its bits. Assumes nothing.
 use mathlib.Core.Path.{sym, subst}
 use native.Mathlib.Omega.{arith}
+use borrow.Author.Rules.{rules}
 use Rattle.packet.specs.Header.{Bounded}
 use Rattle.packet.proofs.Fields.{read_is, bounded}
 use Rattle.packet.proofs.Packet.read.Goals as goal

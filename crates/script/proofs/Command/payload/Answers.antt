@@ -1,5 +1,6 @@
 -- `script::Command::payload` meets its contract. Assumes nothing.
 use native.Mathlib.Omega.{arith}
+use borrow.Author.Rules.{rules}
 use borrow.Author.Tests.{eq-eqb, ne_eqb, le-leb, lt-leb}
 use Rattle.script.specs.Script.{payload_of}
 use Rattle.script.proofs.Command.payload.Goals as goal
@@ -36,6 +37,6 @@ pub returns-then-alone : goal.returns-then-alone
 unfolding payload_of
 returns-then-alone c = (simp (ne_eqb _ _ c.if-letter-eq82.false, ne_eqb _ _ c.if-letter-eq70.false, ne_eqb _ _ c.if-letter-eq83.false, ← c.alone.ensures, c.if-alone.true), search rules)
 
-pub returns : goal.returns
+pub returns-then-self-le64 : goal.returns
 unfolding payload_of
-returns c = (simp (ne_eqb _ _ c.if-letter-eq82.false, ne_eqb _ _ c.if-letter-eq70.false, ne_eqb _ _ c.if-letter-eq83.false, ← c.alone.ensures, c.if-alone.false), search rules)
+returns-then-self-le64 c = (simp (ne_eqb _ _ c.if-letter-eq82.false, ne_eqb _ _ c.if-letter-eq70.false, ne_eqb _ _ c.if-letter-eq83.false, ← c.alone.ensures, c.if-alone.false), search rules)

@@ -1,6 +1,7 @@
 -- `script::pokes::poke_desks` meets its contract. Assumes nothing.
 use mathlib.Core.Path.{◌≡◌, sym}
 use native.Mathlib.Omega.{arith}
+use borrow.Author.Rules.{rules}
 use lib.ListN.{length}
 use lib.Seq.{set_out}
 use Rattle.octets.proofs.Lists.{unmap}

@@ -1,6 +1,7 @@
 -- `script::pokes::poke_state` meets its contract. Assumes nothing.
 use mathlib.Core.Path.{◌≡◌}
 use native.Mathlib.Omega.{arith}
+use borrow.Author.Rules.{rules}
 use Prim.Native.Nat.{◌%◌, ◌^◌}
 use lib.ListN.{length}
 use lib.Seq.{set_out}
@@ -42,6 +43,6 @@ pub returns-then-a-le12 : goal.returns-then-a-le12
 unfolding poked
 returns-then-a-le12 c = rw (c.poke_slots-after.ensures, slot-poked c.args.a c.args.b c.args.d c.args.s (omega arith) (omega arith))
 
-pub returns : goal.returns
+pub returns-then-a-eq0 : goal.returns
 unfolding poked
-returns c = rw (none-poked c.args.a c.args.b c.args.d c.args.s (omega arith))
+returns-then-a-eq0 c = rw (none-poked c.args.a c.args.b c.args.d c.args.s (omega arith))

@@ -1,4 +1,5 @@
 -- `script::pokes::set_octet` meets its contract: an octet set past the end changes nothing. Assumes nothing.
+use borrow.Author.Rules.{rules}
 use lib.Seq.{set_out}
 use Rattle.script.proofs.pokes.set_octet.Goals as goal
 

@@ -8,6 +8,6 @@ pub returns-then-self-eq0 : goal.returns-then-self-eq0
 unfolding complete held
 returns-then-self-eq0 c = search tests
 
-pub returns : goal.returns
+pub returns-then-self-eq0 : goal.returns
 unfolding complete held
-returns c = rw (ne_eqb _ _ c.if-self-eq0.false, ← c.need.ensures)
+returns-then-self-eq0 c = rw (ne_eqb _ _ c.if-self-eq0.false, ← c.need.ensures)

@@ -1,5 +1,6 @@
 -- `vectors::answers::counter_answer` meets its contract: a number of three octets is always a counter. Assumes nothing.
 use mathlib.Core.Path.{sym, ◌∙◌}
+use borrow.Author.Rules.{rules}
 use borrow.Author.Tests.{eq-eqb, ne_eqb}
 use Rattle.vectors.specs.Answers.{counter_text}
 use Rattle.vectors.proofs.Checks.{good-counter, no-bad-counter, as_number}
@@ -24,9 +25,9 @@ returns-in_default-checked_next c =
 slice-aggregate-with-number : tie.Need-slice-aggregate-with-number
 slice-aggregate-with-number c = search rules
 
-pub returns : goal.returns
+pub returns-then-q-ne6 : goal.returns
 unfolding counter_text
-returns c = (
+returns-then-q-ne6 c = (
   search rules,
   let at-checked2 = (goal.at.returns c).In-Good-checked_next-1 in
       let at-u24-at2 = at-checked2.before in

@@ -1,4 +1,5 @@
 -- `vectors::answers::crc_answer` meets its contract. Assumes nothing.
+use borrow.Author.Rules.{rules}
 use Rattle.text.proofs.Following.{behind}
 use Rattle.vectors.specs.Answers.{crc_text}
 use Rattle.vectors.proofs.answers.crc_answer.Goals as goal

@@ -2,6 +2,7 @@
 use Prim.Native.Nat.{◌<◌}
 use native.Mathlib.Omega.{arith}
 use lib.ListN.{length}
+use borrow.Author.Rules.{rules}
 use Rattle.octets.proofs.Numbers.{number_at-one}
 use Rattle.octets.proofs.Tests.{denied, granted}
 use Rattle.vectors.specs.Answers.{fit_text}
@@ -18,16 +19,16 @@ returns-then-not-good_length c = (
   search rules,
   let at-good-length = (goal.at.returns-then-not-good_length c).Then-not-good_length in
       let at-u64-at = at-good-length.before in
-      rw (← at-u64-at.u64-at.ensures, denied at-good-length.good_length.ensures c.if-not-good_length.true) c.word.ensures,
+      rw (← at-u64-at.u64-at.ensures, denied at-good-length.good_length.ensures c.if-not-good_length.true-raw) c.word.ensures,
 )
 
 -- NOT TURNED
 slice-aggregate-with-number : tie.Need-slice-aggregate-with-number
 slice-aggregate-with-number c = search rules
 
-pub returns : goal.returns
+pub returns-then-not-good_length : goal.returns
 unfolding fit_text
-returns c = (
+returns-then-not-good_length c = (
   search rules,
   let q = c.before.before.before.before.before.before.before.before.before.before.before.before.before.before.args.q.now in
       let some : 0 < length q = omega arith in

@@ -1,4 +1,5 @@
 -- `vectors::answers::length_answer` meets its contract. Assumes nothing.
+use borrow.Author.Rules.{rules}
 use borrow.Author.Tests.{eq-eqb, ne_eqb}
 use Rattle.octets.proofs.Tests.{denied, granted}
 use Rattle.text.proofs.Following.{behind}
@@ -19,7 +20,7 @@ returns-then-not-good_length c = (
   let at-good-length = (goal.at.returns-then-not-good_length c).Then-not-good_length in
       let at-u64-at = at-good-length.before in
       let at-if1 = at-u64-at.before in
-      rw (eq-eqb _ _ at-if1.if1.false, ← at-u64-at.u64-at.ensures, denied at-good-length.good_length.ensures c.if-not-good_length.true)
+      rw (eq-eqb _ _ at-if1.if1.false, ← at-u64-at.u64-at.ensures, denied at-good-length.good_length.ensures c.if-not-good_length.true-raw)
       c.word.ensures,
 )
 
@@ -27,9 +28,9 @@ returns-then-not-good_length c = (
 slice-aggregate-with-number : tie.Need-slice-aggregate-with-number
 slice-aggregate-with-number c = search rules
 
-pub returns : goal.returns
+pub returns-then-q-ne8 : goal.returns
 unfolding length_text
-returns c = (
+returns-then-q-ne8 c = (
   search rules,
   let at-need = (goal.at.returns c).After-need in
       let at-if2 = at-need.before.before in

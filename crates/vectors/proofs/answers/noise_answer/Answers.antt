@@ -1,4 +1,5 @@
 -- `vectors::answers::noise_answer` meets its contract. Assumes nothing.
+use borrow.Author.Rules.{rules}
 use borrow.Author.Tests.{eq-eqb, ne_eqb, lt-ltb, le-ltb}
 use Rattle.text.proofs.Following.{behind}
 use Rattle.vectors.specs.Answers.{noise_text}
@@ -33,9 +34,9 @@ returns-then-number-eq0 c = (
 slice-aggregate-word-2 : tie.Need-slice-aggregate-word-2
 slice-aggregate-word-2 c = search rules
 
-pub returns : goal.returns
+pub returns-then-q-ne4 : goal.returns
 unfolding noise_text
-returns c = (
+returns-then-q-ne4 c = (
   search rules,
   let at-if3 = (goal.at.returns c).Else-number-eq0 in
       let at-if2 = at-if3.before in
