@@ -222,7 +222,17 @@ def turn(path, v, crate, dotted, requires):
     comments = [l for l in head if l.startswith("--")]
     uses = [l for l in head if l.startswith("use ") and not re.search(r"\.(Tie as tie|Statement\.\{statement\})$", l)]
     used, answers, invariants, helpers, named = set(), [], [], [], set()
-    renamed, easy = {}, {}
+    renamed, easy, taken = {}, {}, set()
+    for m in re.finditer(r"^(\S+) : tie\.Need-(\S+)", "\n".join(rest), re.M):
+        j = fn.need(m.group(2), taken)
+        if j is not None:
+            taken.add(j)
+            renamed[m.group(1)] = fn.needs[j][1]
+    swapped = {a: b for a, b in renamed.items() if a != b}
+
+    def cite(t):
+        return PATH.sub(lambda q: (swapped[q.group(1)] + q.group(2)) if q.group(1) in swapped else q.group(0), t)
+
     for b in blocks("\n".join(rest)):
         lines = b.split("\n")
         k = 0
@@ -278,7 +288,6 @@ def turn(path, v, crate, dotted, requires):
                 answers.append("\n".join(above + ["-- NOT TURNED"] + lines))
                 continue
             term = n.group(3).strip()
-            renamed[m.group(1)] = new
             plain = re.fullmatch(r"search rules|omega arith", term)
             if re.fullmatch(r"record \{.*\}", term, re.S) is None and new in v["asked"] and len(v["asked"][new]) > 1:
                 for cut in [0] + [q.end() for q in re.finditer(r"\bin\s+(?=\()", term)]:
@@ -288,7 +297,7 @@ def turn(path, v, crate, dotted, requires):
                         break
             t = Turn(fn, new, at)
             t.roots[n.group(1)] = (at, (n.group(1), at, new))
-            term = t.text(term)
+            term = t.text(cite(term))
             nl = n.group(3).startswith("\n")
             answers.append("\n".join(above + [f"pub {new} : goal.{new}"]) + "\n" + opened + f"{new} {n.group(1)} =" + ("\n    " if nl else " ") + term)
             if plain:
@@ -322,12 +331,7 @@ def turn(path, v, crate, dotted, requires):
             t.roots[var] = (i, (var, fn.shown(i), fn.place_name(i)))
             b = t.text(b)
         helpers.append("\n".join(above + [b]))
-    # answers that others cite go by their goals' names; an easy one stays only where it is cited
-    swapped = {a: b for a, b in renamed.items() if a != b}
-    def cite(t):
-        return PATH.sub(lambda q: (swapped[q.group(1)] + q.group(2)) if q.group(1) in swapped else q.group(0), t)
-    easy = {k: t for k, t in easy.items()}
-    answers = [a if a in easy.values() else cite(a) for a in answers]
+    # an easy answer stays only where another one cites it
     helpers = [cite(h) for h in helpers]
     everything = "\n".join(helpers + [a for a in answers if a not in easy.values()])
     answers = [a for a in answers if a not in easy.values() or re.search(rf"(?<![\w'.-]){re.escape([k for k, t in easy.items() if t == a][0])}(?![\w'-])", everything)]

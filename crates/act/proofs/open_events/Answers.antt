@@ -8,7 +8,7 @@ returns-then-flags-eq-WHOLE c =
     let l = c.emit.ensures in
     told-whole _ _ _ _ _ m.0 m.1 c.if-flags-eq-WHOLE.true l.0 l.1
 
-pub returns-then-flags-eq-WHOLE : goal.returns
-returns-then-flags-eq-WHOLE c =
+pub returns : goal.returns
+returns c =
     let m = c.emit-m.ensures in
     told-first _ _ _ _ _ m.0 m.1 c.if-flags-eq-WHOLE.false

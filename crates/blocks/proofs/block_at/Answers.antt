@@ -18,5 +18,5 @@ loop-b-preserved-then-x-o c = reaching-on c.loop-b.invariant (omega arith) (omeg
 pub loop-b-preserved : goal.loop-b-preserved
 loop-b-preserved c = reaching-past c.loop-b.invariant (omega arith) c.if-x-o.false
 
-pub returns-then-still-eq0 : goal.returns
-returns-then-still-eq0 c = reaching-none c.loop-b.invariant (omega arith)
+pub returns : goal.returns
+returns c = reaching-none c.loop-b.invariant (omega arith)

@@ -16,5 +16,5 @@ loop-b-preserved-then-o-from c = moving-on c.before.before.before.before.loop.in
 pub loop-b-preserved : goal.loop-b-preserved
 loop-b-preserved c = moving-past c.before.before.before.before.loop.invariant (omega arith) c.if-o-from.false
 
-pub returns-then-left-eq0 : goal.returns
-returns-then-left-eq0 c = moving-all c.loop-b.invariant (omega arith)
+pub returns : goal.returns
+returns c = moving-all c.loop-b.invariant (omega arith)

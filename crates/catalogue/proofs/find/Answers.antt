@@ -19,5 +19,5 @@ good_sections-requires c = (shape-granted _ c.is_sections.ensures c.if-not-is_se
 pub returns-then-not-good_sections : goal.returns-then-not-good_sections
 returns-then-not-good_sections c = found-not _ (denied c.good_sections.ensures c.if-not-good_sections.true-raw)
 
-pub returns-then-not-is_sections : goal.returns
-returns-then-not-is_sections c = found-so _ (granted c.good_sections.ensures c.if-not-good_sections.false-raw) c.find_places-at.ensures.0
+pub returns : goal.returns
+returns c = found-so _ (granted c.good_sections.ensures c.if-not-good_sections.false-raw) c.find_places-at.ensures.0

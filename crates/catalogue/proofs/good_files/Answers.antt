@@ -21,5 +21,5 @@ returns-then-u64_at-eq0 c = file-bad c.loop-i.invariant (omega arith) (inr (inr 
 pub loop-i-preserved : goal.loop-i-preserved
 loop-i-preserved c = file-good c.loop-i.invariant (omega arith) (omega arith) (omega arith) (omega arith)
 
-pub returns-then-s-p-gt-LAST : goal.returns
-returns-then-s-p-gt-LAST c = file-end c.loop-i.invariant (omega arith)
+pub returns : goal.returns
+returns c = file-end c.loop-i.invariant (omega arith)

@@ -21,7 +21,7 @@ returns-then-not-rising_images c = refused-image c.requires.1 (denied c.rising_i
 pub tally-counts-requires : goal.tally-counts-requires
 tally-counts-requires c = (omega arith, omega arith, granted c.good_files.ensures c.if-not-good_files.left)
 
-pub returns-then-at-gt-MOST : goal.returns
-returns-then-at-gt-MOST c =
+pub returns : goal.returns
+returns c =
     judged c.requires.1 c.requires.0 (omega arith) (granted c.good_files.ensures c.if-not-good_files.left)
     (granted c.rising_images.ensures c.if-not-rising_images.left) _ c.tally-counts.ensures c.true_channels.ensures

@@ -17,5 +17,5 @@ returns-then-index-n c = image-bad c.loop-i.invariant (omega arith) c.u16_at-ind
 pub loop-i-preserved : goal.loop-i-preserved
 loop-i-preserved c = image-good c.loop-i.invariant (omega arith) c.u16_at-index.ensures (omega arith) (omega arith)
 
-pub returns-then-index-least : goal.returns
-returns-then-index-least c = image-end c.loop-i.invariant (omega arith)
+pub returns : goal.returns
+returns c = image-end c.loop-i.invariant (omega arith)

@@ -27,5 +27,5 @@ returns-then-u16_at-counts c = compare-other c.loop-c.invariant (omega arith) c.
 pub loop-c-preserved : goal.loop-c-preserved
 loop-c-preserved c = compare-more c.loop-c.invariant (omega arith) c.if-counts-c-eq0.false (omega arith) (omega arith) (omega arith)
 
-pub returns-then-j-k : goal.returns
-returns-then-j-k c = compare-end c.loop-c.invariant (omega arith)
+pub returns : goal.returns
+returns c = compare-end c.loop-c.invariant (omega arith)

@@ -19,6 +19,6 @@ pub loop-i-preserved : goal.loop-i-preserved
 unfolding among
 loop-i-preserved c = passed c.loop-i.invariant 0 (omega arith) (rw (ne_eqb _ _ c.if-channels-i.false))
 
-pub returns-then-channels-i : goal.returns
+pub returns : goal.returns
 unfolding among
-returns-then-channels-i c = ended c.loop-i.invariant (omega arith) refl
+returns c = ended c.loop-i.invariant (omega arith) refl

@@ -58,6 +58,6 @@ loop-i-preserved c =
     let nowhere = ap (among _) (behind l refl) ∙ sym c.among.ensures ∙ c.if-among.false in
     passed l 0 (omega arith) (once _ _ (omega arith) nowhere)
 
-pub returns-then-channels-lt1 : goal.returns
+pub returns : goal.returns
 unfolding distinct_channels
-returns-then-channels-lt1 c = ended c.loop-i.invariant (omega arith) refl ∙ good _ (omega arith) (omega arith)
+returns c = ended c.loop-i.invariant (omega arith) refl ∙ good _ (omega arith) (omega arith)

@@ -8,7 +8,7 @@ use Rattle.chase.proofs.fetch.Goals as goal
 pub returns-then-left-lt-SIZE : goal.returns-then-left-lt-SIZE
 returns-then-left-lt-SIZE c = sym (next-short payload_of c.args.script.now c.args.at (omega arith))
 
-pub returns-then-left-lt-SIZE : goal.returns
-returns-then-left-lt-SIZE c =
+pub returns : goal.returns
+returns c =
     let a = c.args in
     next-whole payload_of a.script.now a.at c.read-x.ensures c.payload-p.ensures c.by.ensures (omega arith)

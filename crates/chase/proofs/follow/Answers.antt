@@ -39,5 +39,5 @@ loop-at-smaller c = omega (arith, following-there c.loop-at.invariant.0 (sym c.f
 pub loop-at-preserved : goal.loop-at-preserved
 loop-at-preserved c = (following-more c.loop-at.invariant.0 (sym c.fetch-next.ensures ∙ c.in-Goes.is) c.obey-h.ensures, search rules, search rules)
 
-pub returns-in-Ends : goal.returns
-returns-in-Ends c = following-all c.loop-at.invariant.0 (omega arith)
+pub returns : goal.returns
+returns c = following-all c.loop-at.invariant.0 (omega arith)

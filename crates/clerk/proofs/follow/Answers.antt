@@ -41,5 +41,5 @@ loop-at-smaller c = omega (arith, following-there c.loop-at.invariant.0 (sym c.f
 pub loop-at-preserved : goal.loop-at-preserved
 loop-at-preserved c = (following-more c.loop-at.invariant.0 (sym c.fetch-next.ensures ∙ c.in-Goes.is) c.obey-h.ensures, search rules, search rules, lent-after _ _ _ c.loop-at.invariant.3 (ap (λ (m : Memory). m.lent) c.obey-h.ensures))
 
-pub returns-in-Ends : goal.returns
-returns-in-Ends c = following-all c.loop-at.invariant.0 (omega arith)
+pub returns : goal.returns
+returns c = following-all c.loop-at.invariant.0 (omega arith)

@@ -4,7 +4,6 @@ use mathlib.Core.List.{List}
 use Prim.Native.Nat.{ℕ, ◌-◌, ◌%◌}
 use native.Mathlib.Nat.{sub-zero}
 use native.Mathlib.Omega.{arith}
-use borrow.Author.Rules.{rules}
 use lib.ListN.{length, take, drop, take-append-drop, length-drop}
 use lib.Seq.{take_all}
 use Rattle.octets.specs.Number.{part}
@@ -21,10 +20,7 @@ joined register xs n c r e f =
     ∙ sym (crc-append register (take n xs) (drop n xs))
     ∙ ap (crc_from register) (take-append-drop n xs)
 
-pub returns-then-octets-lt-MANY : goal.returns-then-octets-lt-MANY
-returns-then-octets-lt-MANY c = search rules
-
-pub returns-then-octets-lt-MANY : goal.returns
-returns-then-octets-lt-MANY c =
+pub returns : goal.returns
+returns c =
     let xs = c.args.octets.now in
     joined _ xs (length xs % 4) _ _ c.by_bits-c.ensures c.by_tables-2.ensures

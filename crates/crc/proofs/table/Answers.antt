@@ -18,8 +18,8 @@ pub returns-then-zeros-eq2 : goal.returns-then-zeros-eq2
 unfolding right crc_from octet shifted bit
 returns-then-zeros-eq2 c = rw c.if-zeros-eq2.true (table-right _ 256 _ refl refl)
 
-pub returns-then-zeros-eq0 : goal.returns
+pub returns : goal.returns
 unfolding right crc_from octet shifted bit
-returns-then-zeros-eq0 c =
+returns c =
     let last : c.args.zeros ≡ 3 = omega arith in
     rw last (table-right _ 256 _ refl refl)

@@ -63,6 +63,6 @@ loop-i-preserved c =
     let sound = granted c.octets_held.ensures c.if-not-octets_held.false-raw in
     passed l.invariant empty_desk (omega arith) (rw (← cut_out_lem l.i _, sound, add-one l.i))
 
-pub returns-then-not-octets_held : goal.returns
+pub returns : goal.returns
 unfolding desks_held
-returns-then-not-octets_held c = ended c.loop-i.invariant (omega arith) refl
+returns c = ended c.loop-i.invariant (omega arith) refl

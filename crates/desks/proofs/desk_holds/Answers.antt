@@ -49,7 +49,7 @@ returns-then-counter-ne0 c =
     let made = made-counter _ c.checked-checked.ensures c.in-Good.is in
     sym (counted _ (omega arith) made.0 (search rules) (λ e. c.if-counter-ne0.true (made.1 ∙ e)))
 
-pub returns-then-desk-gt-MOST : goal.returns
-returns-then-desk-gt-MOST c =
+pub returns : goal.returns
+returns c =
     let made = made-counter _ c.checked-checked.ensures c.in-Good.is in
     sym (uncounted _ (omega arith) made.0 (search rules) (sym made.1 ∙ c.if-counter-ne0.false))

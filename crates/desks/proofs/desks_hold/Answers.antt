@@ -24,6 +24,6 @@ unfolding each
 loop-i-preserved c =
     passed c.loop-i.invariant empty_desk (omega arith) (rw (granted c.desk_holds.ensures c.if-not-desk_holds.false-raw))
 
-pub returns-then-not-desk_holds : goal.returns
+pub returns : goal.returns
 unfolding each
-returns-then-not-desk_holds c = ended c.loop-i.invariant (omega arith) refl
+returns c = ended c.loop-i.invariant (omega arith) refl

@@ -56,7 +56,7 @@ returns-in_default c =
     (λ tag. sym (header _ _ (search granted) (look ∙ look-told _ tag) (omega arith)))
     c.in_default.keys2
 
-pub returns-then-not-all_zero : goal.returns
-returns-then-not-all_zero c =
+pub returns : goal.returns
+returns c =
     let look = sym c.look_at-l.ensures in
     sized _ _ (search granted) (look ∙ c.in-Good.is) (omega arith) c.size.ensures (search rules)

@@ -56,8 +56,8 @@ returns-then-letter-eq72 c =
     let e = c.show_lent.ensures in
     (e.0 a.desks.now a.store.now ∙ sym law.0, (e.1.0, rw law.1 e.1.1))
 
-pub returns-then-letter-eq83 : goal.returns
-returns-then-letter-eq83 c =
+pub returns : goal.returns
+returns c =
     let a = c.args in
     let law = by-other a.x a.payload.now (memory a.w a.desks.now a.store.now) c.if-letter-eq83.false c.if-letter-eq70.false c.if-letter-eq82.false c.if-letter-eq76.false c.if-letter-eq73.false c.if-letter-eq72.false in
     let e = c.poke.ensures in

@@ -6,5 +6,5 @@ use Rattle.enter.proofs.begin.Goals as goal
 pub returns-then-buffer-lt6 : goal.returns-then-buffer-lt6
 returns-then-buffer-lt6 c = not-begun _ (omega arith)
 
-pub returns-then-buffer-lt6 : goal.returns
-returns-then-buffer-lt6 c = is-begun _ (omega arith) c.blank.ensures
+pub returns : goal.returns
+returns c = is-begun _ (omega arith) c.blank.ensures

@@ -34,6 +34,6 @@ returns-then-buffer-size c = is-short (ready (goal.at.returns-then-buffer-size c
 pub append-requires : goal.append-requires
 append-requires c = (ready (goal.at.append-requires c).After-counts_with-counts, omega (arith, sized (goal.at.append-requires c).After-size_with-size))
 
-pub returns-then-buffer-size : goal.returns
-returns-then-buffer-size c =
+pub returns : goal.returns
+returns c =
     is-entered (ready (goal.at.returns c).After-counts_with-counts) (sized (goal.at.returns c).After-size_with-size) (omega arith) c.append.ensures

@@ -9,5 +9,5 @@ returns-then-channel-gt-LAST c = bad-channel c.args.e (omega arith)
 pub returns-then-application-gt-LAST_FILE : goal.returns-then-application-gt-LAST_FILE
 returns-then-application-gt-LAST_FILE c = bad-application c.args.e (omega arith)
 
-pub returns-then-channel-gt-LAST : goal.returns
-returns-then-channel-gt-LAST c = good-so c.args.e (omega arith) (omega arith)
+pub returns : goal.returns
+returns c = good-so c.args.e (omega arith) (omega arith)

@@ -18,5 +18,5 @@ pub returns-then-not-good_facts : goal.returns-then-not-good_facts
 returns-then-not-good_facts c =
     is-bad c.requires c.args.e (few (goal.at.returns-then-not-good_facts c).Else-at-eq-MOST) (denied c.good_facts.ensures c.if-not-good_facts.true-raw)
 
-pub returns-then-at-eq-MOST : goal.returns
-returns-then-at-eq-MOST c = (c.requires, few (goal.at.returns c).Else-at-eq-MOST, granted c.good_facts.ensures c.if-not-good_facts.false-raw)
+pub returns : goal.returns
+returns c = (c.requires, few (goal.at.returns c).Else-at-eq-MOST, granted c.good_facts.ensures c.if-not-good_facts.false-raw)

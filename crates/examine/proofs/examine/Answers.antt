@@ -17,8 +17,8 @@ returns-then-not-marked c =
     let unlike = sym c.marked.ensures ∙ not-true _ c.if-not-marked.true-raw in
     (sym (other-marker _ _ _ size unlike), sym (plain-unframed _ _ (unmarked _ size unlike)))
 
-pub returns-then-frame-ne-SIZE : goal.returns
-returns-then-frame-ne-SIZE c =
+pub returns : goal.returns
+returns c =
     let size = test.before.before.if1.false in
     let framed = is_framed _ size (sym test.before.marked.ensures ∙ not-false _ test.if2.false) in
     let plain = mixing.mix.ensures ∙ coded _ size in record {

@@ -26,8 +26,8 @@ returns-in-Refused c =
     (pointer-refused _ _ _ c.if-h-ne-VERSION.false c.if-h-spacecraft.false c.if-channel-eq-FILL.false _ (sym c.desk_of-w.ensures ∙ c.in-Desk.is)
     (sym c.meaning-p.ensures ∙ tag-refused _ c.in-Refused.keys1))
 
-pub returns-then-h-ne-VERSION : goal.returns
-returns-then-h-ne-VERSION c =
+pub returns : goal.returns
+returns c =
     sym
     (accepted _ _ _ _
     (record {

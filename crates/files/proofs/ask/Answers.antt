@@ -27,7 +27,7 @@ returns-then-is_complete c =
     asked-complete _ _ (sound (goal.at.returns-then-is_complete c).Else-not-is_sound) (omega arith) (granted c.is_held.ensures c.if-not-is_held.false-raw)
     (sym c.is_complete.ensures ∙ c.if-is_complete.true)
 
-pub returns-then-not-is_sound : goal.returns
-returns-then-not-is_sound c =
+pub returns : goal.returns
+returns c =
     asked-incomplete _ _ (sound (goal.at.returns c).Else-not-is_sound) (omega arith) (granted c.is_held.ensures c.if-not-is_held.false-raw)
     (sym c.is_complete.ensures ∙ c.if-is_complete.false)

@@ -66,5 +66,5 @@ copy_out-requires c =
       buffer_bound = rw add-one (omega arith);
     }
 
-pub returns-then-offset-size : goal.returns
-returns-then-offset-size c = inside _ _ _ _ _ (omega arith) (omega arith) c.copy_out.ensures
+pub returns : goal.returns
+returns c = inside _ _ _ _ _ (omega arith) (omega arith) c.copy_out.ensures

@@ -52,7 +52,7 @@ pub loop-i-preserved : goal.loop-i-preserved
 unfolding Unnamed
 loop-i-preserved c = (omega arith, below_more _ _ c.loop-i.invariant.1 c.if-w-channel.false)
 
-pub returns-then-w-channel : goal.returns
-returns-then-w-channel c =
+pub returns : goal.returns
+returns c =
     let a = c.args in
     sym (unnamed a.channel c.loop-i.i a.n a.t1 (search (rules, unmap)) (omega arith) c.loop-i.invariant.1 (omega arith))

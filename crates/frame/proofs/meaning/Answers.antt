@@ -9,5 +9,5 @@ returns-then-pointer-lt-ZONE c = sym (below-offset _ c.if-pointer-lt-ZONE.true)
 pub returns-then-pointer-eq-NO_START : goal.returns-then-pointer-eq-NO_START
 returns-then-pointer-eq-NO_START c = sym (no_start _ c.if-pointer-eq-NO_START.true)
 
-pub returns-then-pointer-lt-ZONE : goal.returns
-returns-then-pointer-lt-ZONE c = sym (else-refused _ c.if-pointer-lt-ZONE.false c.if-pointer-eq-NO_START.false)
+pub returns : goal.returns
+returns c = sym (else-refused _ c.if-pointer-lt-ZONE.false c.if-pointer-eq-NO_START.false)

@@ -29,6 +29,6 @@ loop-at-preserved c =
     c.next_place-at.ensures.1
     (λ rs. nth-later _ rs _ c.if-left-eq0.false)
 
-pub returns-then-left-eq0 : goal.returns
+pub returns : goal.returns
 unfolding nth
-returns-then-left-eq0 c = sym (ends c.loop-at.invariant c.loop-at-test.false)
+returns c = sym (ends c.loop-at.invariant c.loop-at-test.false)

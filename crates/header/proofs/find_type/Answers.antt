@@ -28,6 +28,6 @@ loop-at-preserved c =
     c.next_place-at.ensures.1
     (λ rs. place-later _ rs _ c.if-r-kind.false)
 
-pub returns-then-r-kind : goal.returns
+pub returns : goal.returns
 unfolding place_of
-returns-then-r-kind c = sym (ends c.loop-at.invariant c.loop-at-test.false)
+returns c = sym (ends c.loop-at.invariant c.loop-at-test.false)

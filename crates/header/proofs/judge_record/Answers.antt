@@ -5,5 +5,5 @@ use Rattle.header.proofs.judge_record.Goals as goal
 pub returns-then-is_cut : goal.returns-then-is_cut
 returns-then-is_cut c = rw (sym c.is_cut.ensures ∙ c.if-is_cut.true)
 
-pub returns-then-is_cut : goal.returns
-returns-then-is_cut c = c.judge_type.ensures ∙ rw (sym c.is_cut.ensures ∙ c.if-is_cut.false)
+pub returns : goal.returns
+returns c = c.judge_type.ensures ∙ rw (sym c.is_cut.ensures ∙ c.if-is_cut.false)

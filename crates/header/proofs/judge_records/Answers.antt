@@ -42,5 +42,5 @@ loop-at-preserved c =
     c.next_place-at.ensures.0
     c.next_place-at.ensures.1
 
-pub returns-in-Refused : goal.returns
-returns-in-Refused c = sym (judging-ends _ c.loop-at.invariant c.loop-at-test.false)
+pub returns : goal.returns
+returns c = sym (judging-ends _ c.loop-at.invariant c.loop-at-test.false)

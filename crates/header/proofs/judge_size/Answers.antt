@@ -7,5 +7,5 @@ use Rattle.header.proofs.judge_size.Goals as goal
 pub returns-then-lent-wanted : goal.returns-then-lent-wanted
 returns-then-lent-wanted c = sym (size-wrong _ _ _ (omega arith))
 
-pub returns-then-lent-wanted : goal.returns
-returns-then-lent-wanted c = sym (size-right _ _ _ (omega arith))
+pub returns : goal.returns
+returns c = sym (size-right _ _ _ (omega arith))

@@ -18,5 +18,5 @@ returns-then-digit-lt48 c = under _ _ (omega arith) (omega arith) (omega arith)
 pub returns-then-digit-gt57 : goal.returns-then-digit-gt57
 returns-then-digit-gt57 c = above _ _ (omega arith) (omega arith) (omega arith)
 
-pub returns-then-words-lt2 : goal.returns
-returns-then-words-lt2 c = digit _ _ (omega arith) (omega arith) _ (omega arith) (omega arith) (omega arith)
+pub returns : goal.returns
+returns c = digit _ _ (omega arith) (omega arith) _ (omega arith) (omega arith) (omega arith)

@@ -44,5 +44,5 @@ overflow_add-all-in-loop-all c = omega (arith, no_more (onward (goal.at.overflow
 pub loop-all-preserved : goal.loop-all-preserved
 loop-all-preserved c = (onward (goal.at.loop-all-preserved c).After-feed-g, search rules, search rules, search rules)
 
-pub returns-then-n-eq0 : goal.returns
-returns-then-n-eq0 c = c.loop-all.invariant.0.tallied
+pub returns : goal.returns
+returns c = c.loop-all.invariant.0.tallied

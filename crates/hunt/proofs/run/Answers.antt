@@ -26,7 +26,7 @@ follow-t-requires c = ((begun (goal.at.follow-t-requires c).Else-b-ne0).fresh, s
 pub passed_over-passed-requires : goal.passed_over-passed-requires
 passed_over-passed-requires c = no_more c.follow-t.ensures
 
-pub returns-then-b-ne0 : goal.returns
-returns-then-b-ne0 c =
+pub returns : goal.returns
+returns c =
     let b = begun (goal.at.returns c).Else-b-ne0 in
     tells c.follow-t.ensures _ b.same b.fresh.limit c.passed_over-passed.ensures c.end.ensures

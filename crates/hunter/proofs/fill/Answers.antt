@@ -42,8 +42,8 @@ copy-requires-2 c =
     let less = c.requires.less in
     omega (arith, length-take-le a.h.waiting a.h.octets (omega arith), c.requires.room)
 
-pub returns-then-left-need : goal.returns
-returns-then-left-need c =
+pub returns : goal.returns
+returns c =
     let a = c.args in
     let s = c.requires in
     fill-whole a.h a.portion.now a.at a.buffer.now s _ _ _ (omega arith) c.copy-2.ensures c.copy-3.ensures c.copy-4.ensures

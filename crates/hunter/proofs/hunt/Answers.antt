@@ -34,8 +34,8 @@ returns-then-not-is_sound c =
 pub search-requires : goal.search-requires
 search-requires c = record { sound = sound-there (goal.at.search-requires c).Else-not-is_sound; room = c.if-buffer-ne-SIZE.false }
 
-pub returns-then-buffer-ne-SIZE : goal.returns
-returns-then-buffer-ne-SIZE c =
+pub returns : goal.returns
+returns c =
     let a = c.args in
     c.search.ensures
     ∙ sym (hunted-sound a.h a.portion.now a.buffer.now c.if-buffer-ne-SIZE.false (sound-there (goal.at.returns c).Else-not-is_sound))

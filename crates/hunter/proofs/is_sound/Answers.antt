@@ -48,8 +48,8 @@ all_zero-requires-2 c =
     let size : length c.args.h.octets ≡ 1024 = search rules in
     (omega arith, omega arith)
 
-pub returns-then-not-h : goal.returns
-returns-then-not-h c =
+pub returns : goal.returns
+returns c =
     let h = c.args.h in
     c.all_zero-2.ensures
     ∙ marker-waits h (not-false _ c.if-not-h.false) (omega arith) (omega arith) (search rules) (omega arith)

@@ -36,7 +36,7 @@ copy-requires c =
     let z = size (goal.at.copy-requires c).Start in
     omega arith
 
-pub returns-then-n-ge4 : goal.returns
-returns-then-n-ge4 c =
+pub returns : goal.returns
+returns c =
     let a = c.args in
     rw c.none_found.ensures (few-hunt a.h c.requires.sound a.portion.now a.buffer.now _ (omega arith) c.copy.ensures)

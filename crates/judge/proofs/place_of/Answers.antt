@@ -31,6 +31,6 @@ pub returns-then-left-need : goal.returns-then-left-need
 returns-then-left-need c =
     place_short _ _ (right (begun (goal.at.returns-then-left-need c).In-At)) (free (goal.at.returns-then-left-need c).In-At) (omega arith)
 
-pub returns-in_default : goal.returns
-returns-in_default c =
+pub returns : goal.returns
+returns c =
     place_found _ _ (right (begun (goal.at.returns c).In-At)) (free (goal.at.returns c).In-At) (omega arith)

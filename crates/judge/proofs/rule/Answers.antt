@@ -29,6 +29,6 @@ pub slice_bounds-rule_file-start : goal.slice_bounds-rule_file-start
 slice_bounds-rule_file-start c =
     omega (arith, read-checked c.requires.0 c.requires.1 (omega arith))
 
-pub returns-then-application-eq-FILL : goal.returns
-returns-then-application-eq-FILL c =
+pub returns : goal.returns
+returns c =
     ruling-file _ _ _ _ c.requires.1 (omega arith) (search granted) (rw data-cut at c.rule_file.ensures)

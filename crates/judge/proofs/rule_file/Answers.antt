@@ -41,6 +41,6 @@ returns-in_default-file c =
 pub rule_next-requires : goal.rule_next-requires
 rule_next-requires c = next_low c
 
-pub returns-in_default : goal.returns
-returns-in_default c =
+pub returns : goal.returns
+returns c =
     file-next _ _ _ _ _ c.file_of-file.ensures (sym c.starts_file.ensures ∙ c.if-starts_file.false) c.in-At-file.is c.rule_next.ensures

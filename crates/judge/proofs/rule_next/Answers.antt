@@ -8,6 +8,6 @@ pub returns-then-fits : goal.returns-then-fits
 unfolding goes_on
 returns-then-fits c = next-goes _ _ _ _ (sym c.fits.ensures ∙ c.if-fits.true)
 
-pub returns-then-fits : goal.returns
+pub returns : goal.returns
 unfolding goes_on
-returns-then-fits c = next-ends _ _ _ _ (sym c.fits.ensures ∙ c.if-fits.false)
+returns c = next-ends _ _ _ _ (sym c.fits.ensures ∙ c.if-fits.false)

@@ -5,5 +5,5 @@ use Rattle.judge.proofs.starts_file.Goals as goal
 pub returns-then-flags-eq-FIRST : goal.returns-then-flags-eq-FIRST
 returns-then-flags-eq-FIRST c = search tests
 
-pub returns-then-flags-eq-FIRST : goal.returns
-returns-then-flags-eq-FIRST c = search tests
+pub returns : goal.returns
+returns c = search tests

@@ -22,7 +22,7 @@ returns-then-read-eq0 c =
 slice-aggregate-word : tie.Need-slice-aggregate-word
 slice-aggregate-word c = search rules
 
-pub returns-then-answer-ne0 : goal.returns
-returns-then-answer-ne0 c =
+pub returns : goal.returns
+returns c =
     let head = behind c.with_number-last.ensures.1 (behind c.word-space.ensures c.hex_octets-end.ensures.1) in
     (search rules, some-octets _ c.before.before.before.before.before.before.before.before.before.before.before.before.before.before.before.before.before.before.before.before.before.before.args.read.now c.before.before.before.before.before.before.before.before.before.before.before.before.before.before.if1.false c.if-read-eq0.false (behind head c.line_end-2.ensures.1))

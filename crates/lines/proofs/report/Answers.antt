@@ -34,8 +34,8 @@ returns-then-complete c =
 slice-aggregate-word-2 : tie.Need-slice-aggregate-word-2
 slice-aggregate-word-2 c = search rules
 
-pub returns-then-answer-ne0 : goal.returns
-returns-then-answer-ne0 c =
+pub returns : goal.returns
+returns c =
     let a = c.before.before.before.before.before.before.before.before.args in
     told a.answer a.complete c.before.before.before.before.before.before.if1.false
     (rw c.if-complete.false c.word-2.ensures)

@@ -13,5 +13,5 @@ overflow_sub-result c = less-fits _ c.if-n-lt2147483648.false c.number-n.ensures
 pub overflow_cast-result-3 : goal.overflow_cast-result-3
 overflow_cast-result-3 c = less-narrow _ c.if-n-lt2147483648.false c.number-n.ensures.1
 
-pub returns-then-n-lt2147483648 : goal.returns
-returns-then-n-lt2147483648 c = signed_high _ c.if-n-lt2147483648.false c.number-n.ensures.1 ∙ ap signed c.number-n.ensures.0
+pub returns : goal.returns
+returns c = signed_high _ c.if-n-lt2147483648.false c.number-n.ensures.1 ∙ ap signed c.number-n.ensures.0

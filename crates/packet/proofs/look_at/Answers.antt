@@ -13,7 +13,7 @@ unfolding look_of
 returns-then-is_bad c =
     rw (le-ltb _ _ c.if-s-lt-HEADER.false, ← c.read-p.ensures.value, ← c.is_bad.ensures, c.if-is_bad.true)
 
-pub returns-then-s-lt-HEADER : goal.returns
+pub returns : goal.returns
 unfolding look_of
-returns-then-s-lt-HEADER c =
+returns c =
     rw (le-ltb _ _ c.if-s-lt-HEADER.false, ← c.read-p.ensures.value, ← c.is_bad.ensures, c.if-is_bad.false)

@@ -9,5 +9,5 @@ returns-then-j-at c = image-none c.requires.0 c.args.i c.args.j (omega arith)
 pub returns-then-e-i : goal.returns-then-e-i
 returns-then-e-i c = image-other c.requires.0 c.args.i c.args.j (omega arith) c.image_entry-e.ensures (omega arith)
 
-pub returns-then-j-at : goal.returns
-returns-then-j-at c = image-this c.requires.0 c.args.i c.args.j (omega arith) c.image_entry-e.ensures (omega arith)
+pub returns : goal.returns
+returns c = image-this c.requires.0 c.args.i c.args.j (omega arith) c.image_entry-e.ensures (omega arith)

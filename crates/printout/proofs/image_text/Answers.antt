@@ -22,6 +22,6 @@ slice-aggregate-two-numbers-3 c = search rules
 slice-aggregate-two-numbers-4 : tie.Need-slice-aggregate-two-numbers-4
 slice-aggregate-two-numbers-4 c = search rules
 
-pub returns-in_default : goal.returns
-returns-in_default c =
+pub returns : goal.returns
+returns c =
     (search rules, rw c.in-There.is (behind c.two_numbers-size.ensures.1 c.two_numbers.ensures.1))

@@ -12,9 +12,9 @@ returns-in_default c = (search rules, rw c.in_default.is (nothing _ _))
 slice-aggregate-with-three : tie.Need-slice-aggregate-with-three
 slice-aggregate-with-three c = search rules
 
-pub returns-in_default : goal.returns
+pub returns : goal.returns
 unfolding image_text
-returns-in_default c = (
+returns c = (
   search rules,
   let at_i = (goal.at.returns c).In-There in
       rw at_i.i.given.1 (behind c.with_three-third.ensures.1 c.number.ensures.1),

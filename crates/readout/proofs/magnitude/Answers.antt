@@ -17,5 +17,5 @@ returns-then-v-lt0 c = far-below c.args.v c.ranges.v
 pub overflow_cast-result-2 : goal.overflow_cast-result-2
 overflow_cast-result-2 c = above c.args.v c.ranges.v c.if-v-lt0.false
 
-pub returns-then-v-lt0 : goal.returns
-returns-then-v-lt0 c = far-above c.args.v c.ranges.v
+pub returns : goal.returns
+returns c = far-above c.args.v c.ranges.v

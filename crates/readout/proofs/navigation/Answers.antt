@@ -9,9 +9,9 @@ pub returns-in_default : goal.returns-in_default
 unfolding navigation_text
 returns-in_default c = (search rules, rw c.in_default.is (nothing _ _))
 
-pub returns-in_default : goal.returns
+pub returns : goal.returns
 unfolding navigation_text
-returns-in_default c = (
+returns c = (
   search rules,
   let at-struct-told = (goal.at.returns c).After-named-first in
       let at_named = at-struct-told.before.before.before.before in

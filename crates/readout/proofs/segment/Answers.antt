@@ -12,9 +12,9 @@ returns-in_default c = (search rules, rw c.in_default.is (nothing _ _))
 slice-aggregate-with-three : tie.Need-slice-aggregate-with-three
 slice-aggregate-with-three c = search rules
 
-pub returns-in_default : goal.returns
+pub returns : goal.returns
 unfolding segment_text
-returns-in_default c = (
+returns c = (
   search rules,
   rw c.in-There.is c.with_three.ensures.1,
 )

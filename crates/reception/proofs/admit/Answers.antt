@@ -81,8 +81,8 @@ examine-requires c =
     let e = steady (goal.at.examine-requires c).Else-not-are_desks_sound in
     (search rules, channels-few _ (sized (start (fits e))) (sound e))
 
-pub returns-then-not-lent_right : goal.returns
-returns-then-not-lent_right c =
+pub returns : goal.returns
+returns c =
     let told = c.examine.ensures in
     record {
   value = told.0 ∙ as-examined _ _ _ _ _ (lent (fits (steady (goal.at.returns c).Else-not-are_desks_sound))) (sound (steady (goal.at.returns c).Else-not-are_desks_sound)) (orderly (goal.at.returns c).Else-not-are_desks_sound);

@@ -11,7 +11,7 @@ returns-then-not-store_fits c =
     let e = sym c.store_fits.ensures ∙ not-true _ c.if-not-store_fits.true-raw in
     rw (eq-eqb _ _ c.if-desks-channels.false, e)
 
-pub returns-then-desks-channels : goal.returns
-returns-then-desks-channels c =
+pub returns : goal.returns
+returns c =
     let e = sym c.store_fits.ensures ∙ not-false _ c.if-not-store_fits.false-raw in
     rw (eq-eqb _ _ c.if-desks-channels.false, e)

@@ -13,5 +13,5 @@ returns-then-r-lt-LEAST c = sym (cut_short _ _ (omega arith))
 pub returns-then-left-r : goal.returns-then-left-r
 returns-then-left-r c = sym (cut-past _ _ (omega arith))
 
-pub returns-then-left-lt-LEAST : goal.returns
-returns-then-left-lt-LEAST c = sym (uncut _ _ (omega arith) (omega arith))
+pub returns : goal.returns
+returns c = sym (uncut _ _ (omega arith) (omega arith))

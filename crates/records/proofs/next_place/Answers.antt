@@ -12,8 +12,8 @@ overflow_add-result c =
     let (some, within) = uncut-within _ _ (sym c.is_cut.ensures ∙ c.if-is_cut.false) in
     omega arith
 
-pub returns-then-is_cut : goal.returns
-returns-then-is_cut c =
+pub returns : goal.returns
+returns c =
     let whole = sym c.is_cut.ensures ∙ c.if-is_cut.false in
     let (some, within) = uncut-within _ _ whole in
     (sym (after-uncut _ _ whole), omega arith, omega arith)

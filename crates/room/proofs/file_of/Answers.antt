@@ -20,5 +20,5 @@ loop-k-preserved c =
     let m = c.loop-k.invariant in
     seeking-on m (omega arith) (sym c.is_incomplete_of.ensures ∙ c.if-is_incomplete_of.false)
 
-pub returns-then-is_incomplete_of : goal.returns
-returns-then-is_incomplete_of c = seeking-none c.loop-k.invariant (omega arith)
+pub returns : goal.returns
+returns c = seeking-none c.loop-k.invariant (omega arith)

@@ -21,5 +21,5 @@ loop-k-preserved c =
     let m = c.loop-k.invariant in
     seeking-on m (omega arith) (ap not (sym c.is_held.ensures) ∙ c.if-not-is_held.false-raw)
 
-pub returns-then-not-is_held : goal.returns
-returns-then-not-is_held c = seeking-none c.loop-k.invariant (omega arith)
+pub returns : goal.returns
+returns c = seeking-none c.loop-k.invariant (omega arith)

@@ -17,6 +17,6 @@ returns-then-letter-eq80 c = rw c.if-letter-eq80.true
 pub returns-then-letter-eq81 : goal.returns-then-letter-eq81
 returns-then-letter-eq81 c = rw c.if-letter-eq81.true
 
-pub returns-then-letter-eq77 : goal.returns
-returns-then-letter-eq77 c =
+pub returns : goal.returns
+returns c =
     rw (ne_eqb _ _ c.if-letter-eq81.false, ne_eqb _ _ c.if-letter-eq80.false, ne_eqb _ _ c.if-letter-eq73.false, ne_eqb _ _ c.if-letter-eq76.false, ne_eqb _ _ c.if-letter-eq77.false)

@@ -20,5 +20,5 @@ overflow_add-result c =
     let h : c.u16_at.result * c.args.w ≤ 65535 * 256 = mul-le-mul {n₂ = 65535} {m₂ = 256} (omega arith) (omega arith) in
     omega arith
 
-pub returns-then-left-lt2 : goal.returns
-returns-then-left-lt2 c = fits-so _ _ _ _ c.u16_at.ensures
+pub returns : goal.returns
+returns c = fits-so _ _ _ _ c.u16_at.ensures

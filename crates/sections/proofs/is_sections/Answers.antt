@@ -36,5 +36,5 @@ overflow_add-p-in-loop-k c = omega (arith, chain-room c.loop-k.invariant (omega 
 pub loop-k-preserved : goal.loop-k-preserved
 loop-k-preserved c = chain_more c.loop-k.invariant (omega arith) c.fits.ensures (not-false _ c.if-not-fits.false-raw) _ c.u16_at.ensures
 
-pub returns-then-not-fits : goal.returns
-returns-then-not-fits c = chain-end c.loop-k.invariant (omega arith)
+pub returns : goal.returns
+returns c = chain-end c.loop-k.invariant (omega arith)

@@ -19,6 +19,6 @@ pub returns-then-count-ne0 : goal.returns-then-count-ne0
 unfolding all_fields_zero
 returns-then-count-ne0 c = rw (eq-eqb _ _ c.if-channel-ne0.false, eq-eqb _ _ c.if-application-ne0.false, eq-eqb _ _ c.if-x-ne0.false, ne_eqb _ _ c.if-count-ne0.true)
 
-pub returns-then-channel-ne0 : goal.returns
+pub returns : goal.returns
 unfolding all_fields_zero
-returns-then-channel-ne0 c = rw (eq-eqb _ _ c.if-channel-ne0.false, eq-eqb _ _ c.if-application-ne0.false, eq-eqb _ _ c.if-x-ne0.false, eq-eqb _ _ c.if-count-ne0.false)
+returns c = rw (eq-eqb _ _ c.if-channel-ne0.false, eq-eqb _ _ c.if-application-ne0.false, eq-eqb _ _ c.if-x-ne0.false, eq-eqb _ _ c.if-count-ne0.false)

@@ -41,7 +41,7 @@ returns-then-channel-application-ne0 c =
     let a = c.args in
     sym (some a.n a.x (omega arith))
 
-pub returns-then-channel-application-ne0 : goal.returns
-returns-then-channel-application-ne0 c =
+pub returns : goal.returns
+returns c =
     let a = c.args in
     sym (none a.n a.x (omega arith))

@@ -63,7 +63,7 @@ returns-in_default c =
     let high = no-count _ c.checked-checked.ensures c.in_default.is in
     sym (uncounted _ _ _ (search rules) (omega arith) (search granted) (omega arith) (search granted) high)
 
-pub returns-then-x-need : goal.returns
-returns-then-x-need c =
+pub returns : goal.returns
+returns c =
     let low = made-count _ c.checked-checked.ensures c.in-Good.is in
     sym (counted _ _ _ (search rules) (omega arith) (search granted) (omega arith) (search granted) (omega arith) low)

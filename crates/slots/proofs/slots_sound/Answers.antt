@@ -119,5 +119,5 @@ loop-k-preserved c =
     let yes = wants-none _ _ _ _ sound (sym c.is_incomplete.ensures ∙ c.if-is_incomplete.false) in
     let-pass _ _ _ _ c.loop-k.invariant (search (rules, unmap)) (omega arith) yes
 
-pub returns-then-not-slot_sound : goal.returns
-returns-then-not-slot_sound c = ended c.loop-k.invariant.1 (omega arith) (slots_end _ _)
+pub returns : goal.returns
+returns c = ended c.loop-k.invariant.1 (omega arith) (slots_end _ _)

@@ -83,8 +83,8 @@ pub desks_hold-requires : goal.desks_hold-requires
 desks_hold-requires c =
     omega (arith, set-few _ _ _ (granted up.before.set-up-sound.ensures up.if1.false))
 
-pub returns-then-not-set_up_sound : goal.returns
-returns-then-not-set_up_sound c =
+pub returns : goal.returns
+returns c =
     let named = counted.before.before.before.before.before.numbers.ensures in
     c.desks_hold.ensures
     ∙ sym (desks _ named (search granted) (search granted) counted.count-owners.ensures.1 (search granted))

@@ -38,6 +38,6 @@ pub returns-then-blocks-eq0 : goal.returns-then-blocks-eq0
 returns-then-blocks-eq0 c =
     sym (no_store _ c.before.before.before.before.before.before.args.t2 _ (omega arith) (search granted) (omega arith))
 
-pub returns-then-channels-gt-MOST_CHANNELS : goal.returns
-returns-then-channels-gt-MOST_CHANNELS c =
+pub returns : goal.returns
+returns c =
     sym (store _ c.before.before.before.before.before.before.args.t2 _ (omega arith) (search granted) (omega arith))

@@ -65,5 +65,5 @@ overflow_cast-blocks c =
 pub fresh_station-station-requires : goal.fresh_station-station-requires
 fresh_station-station-requires c = search granted
 
-pub returns-then-not-good_channels : goal.returns
-returns-then-not-good_channels c = all_right _ _ _ _ (search granted) (omega arith) c.say.ensures c.fresh_station-station.ensures c.blank.ensures (search granted)
+pub returns : goal.returns
+returns c = all_right _ _ _ _ (search granted) (omega arith) c.say.ensures c.fresh_station-station.ensures c.blank.ensures (search granted)

@@ -11,7 +11,7 @@ returns-then-blocks-eq0 c = rw c.if-blocks-eq0.true
 pub returns-then-blocks-gt-MOST_BLOCKS : goal.returns-then-blocks-gt-MOST_BLOCKS
 returns-then-blocks-gt-MOST_BLOCKS c = rw (lt-leb _ _ c.if-blocks-gt-MOST_BLOCKS.true, and-false)
 
-pub returns-then-blocks-eq0 : goal.returns
-returns-then-blocks-eq0 c =
+pub returns : goal.returns
+returns c =
     let one : 1 ≤ c.args.blocks = omega arith in
     rw (le-leb _ _ one, le-leb _ _ c.if-blocks-gt-MOST_BLOCKS.false)

@@ -50,6 +50,6 @@ loop-i-preserved c =
     let channels : List ℕ = c.args.channels.now in
     (omega arith, omega arith, search rules, map_more channel_of channels c.loop-i.watched c.loop-i.i c.loop-i.invariant.3 0 made (omega arith) (omega arith))
 
-pub returns-in_default : goal.returns
-returns-in_default c =
+pub returns : goal.returns
+returns c =
     map-end channel_of c.args.channels.now c.loop-i.watched c.loop-i.i c.loop-i.invariant.3 (omega arith)

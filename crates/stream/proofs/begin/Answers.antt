@@ -10,6 +10,6 @@ pub returns-then-k-le-MOST : goal.returns-then-k-le-MOST
 unfolding begun_by holding
 returns-then-k-le-MOST c = rw (le-leb c.args.k 3 (omega arith))
 
-pub returns-then-k-le-MOST : goal.returns
+pub returns : goal.returns
 unfolding begun_by holding
-returns-then-k-le-MOST c = rw (lt-leb c.args.k 3 (omega arith))
+returns c = rw (lt-leb c.args.k 3 (omega arith))

@@ -26,7 +26,7 @@ loop-i-preserved c =
     let a = c.args in
     seek-more a.portion.now a.to a.k c.loop-i.i c.loop-i.four c.loop-i.invariant (omega arith) (omega arith) (sym c.is_near.ensures ∙ c.if-is_near.false)
 
-pub returns-then-is_near : goal.returns
-returns-then-is_near c =
+pub returns : goal.returns
+returns c =
     let a = c.args in
     seek-end a.portion.now a.to a.k c.loop-i.i c.loop-i.four c.loop-i.invariant (omega arith)

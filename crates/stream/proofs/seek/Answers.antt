@@ -22,7 +22,7 @@ loop-i-preserved c =
     let a = c.args in
     (omega arith, stretch-more a.portion.now a.k c.loop-i.i c.loop-i.four c.loop-i.invariant.1 16 (omega arith) c.leap-s.ensures _ c.in-Nowhere.is)
 
-pub returns-in-At : goal.returns
-returns-in-At c =
+pub returns : goal.returns
+returns c =
     let a = c.args in
     stretch-left a.portion.now a.k c.loop-i.i c.loop-i.four c.loop-i.invariant.1 c.scan.ensures

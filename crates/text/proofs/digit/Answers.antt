@@ -6,5 +6,5 @@ use Rattle.text.proofs.digit.Goals as goal
 pub returns-then-d-lt10 : goal.returns-then-d-lt10
 returns-then-d-lt10 c = rw (lt-ltb _ _ c.if-d-lt10.true)
 
-pub returns-then-d-lt10 : goal.returns
-returns-then-d-lt10 c = rw (le-ltb _ _ c.if-d-lt10.false) (omega arith)
+pub returns : goal.returns
+returns c = rw (le-ltb _ _ c.if-d-lt10.false) (omega arith)

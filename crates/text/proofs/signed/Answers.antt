@@ -14,6 +14,6 @@ returns-then-negative c =
     let w = behind c.word-sign.ensures c.decimal.ensures.1 in
     (search rules, rw c.if-negative.true w)
 
-pub returns-then-negative : goal.returns
+pub returns : goal.returns
 unfolding spaced_signed
-returns-then-negative c = (search rules, rw c.if-negative.false c.number.ensures.1)
+returns c = (search rules, rw c.if-negative.false c.number.ensures.1)

@@ -43,5 +43,5 @@ returns-then-flags-eq-WHOLE c =
     shape-decides _ (ready (goal.at.returns-then-flags-eq-WHOLE c).Else-not-good_length) false
     (rw (c.if-flags-eq-WHOLE.true, ← c.whole_fits.ensures, c.if-whole_fits.false))
 
-pub returns-then-data-lt-HEADER : goal.returns
-returns-then-data-lt-HEADER c = shape-decides _ (ready (goal.at.returns c).Else-not-good_length) false (rw (ne_eqb _ _ c.if-flags-eq-FIRST.false, ne_eqb _ _ c.if-flags-eq-WHOLE.false))
+pub returns : goal.returns
+returns c = shape-decides _ (ready (goal.at.returns c).Else-not-good_length) false (rw (ne_eqb _ _ c.if-flags-eq-FIRST.false, ne_eqb _ _ c.if-flags-eq-WHOLE.false))

@@ -8,6 +8,6 @@ pub returns-then-n-ne-BLOCK : goal.returns-then-n-ne-BLOCK
 unfolding first_fits
 returns-then-n-ne-BLOCK c = search tests
 
-pub returns-then-n-ne-BLOCK : goal.returns
+pub returns : goal.returns
 unfolding first_fits
-returns-then-n-ne-BLOCK c = rw (eq-eqb _ _ c.if-n-ne-BLOCK.false, c.need.ensures)
+returns c = rw (eq-eqb _ _ c.if-n-ne-BLOCK.false, c.need.ensures)

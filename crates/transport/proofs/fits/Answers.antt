@@ -19,6 +19,6 @@ pub returns-then-flags-eq-LAST : goal.returns-then-flags-eq-LAST
 unfolding fits
 returns-then-flags-eq-LAST c = search tests
 
-pub returns-then-flags-eq-FIRST : goal.returns
+pub returns : goal.returns
 unfolding fits
-returns-then-flags-eq-FIRST c = search tests
+returns c = search tests

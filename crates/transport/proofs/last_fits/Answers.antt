@@ -19,6 +19,6 @@ pub returns-then-accepted-need : goal.returns-then-accepted-need
 unfolding last_fits
 returns-then-accepted-need c = rw (follows (goal.at.returns-then-accepted-need c).Else-not-follows, ← c.need.ensures, ne_eqb _ _ c.if-accepted-need.true)
 
-pub returns-then-not-follows : goal.returns
+pub returns : goal.returns
 unfolding last_fits
-returns-then-not-follows c = rw (follows (goal.at.returns c).Else-not-follows, ← c.need.ensures, eq-eqb _ _ c.if-accepted-need.false, c.rest.ensures)
+returns c = rw (follows (goal.at.returns c).Else-not-follows, ← c.need.ensures, eq-eqb _ _ c.if-accepted-need.false, c.rest.ensures)

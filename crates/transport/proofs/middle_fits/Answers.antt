@@ -19,6 +19,6 @@ pub returns-then-n-ne-BLOCK : goal.returns-then-n-ne-BLOCK
 unfolding middle_fits
 returns-then-n-ne-BLOCK c = rw (follows (goal.at.returns-then-n-ne-BLOCK c).Else-not-follows, ne_eqb _ _ c.if-n-ne-BLOCK.true)
 
-pub returns-then-not-follows : goal.returns
+pub returns : goal.returns
 unfolding middle_fits
-returns-then-not-follows c = rw (follows (goal.at.returns c).Else-not-follows, eq-eqb _ _ c.if-n-ne-BLOCK.false, c.need.ensures)
+returns c = rw (follows (goal.at.returns c).Else-not-follows, eq-eqb _ _ c.if-n-ne-BLOCK.false, c.need.ensures)

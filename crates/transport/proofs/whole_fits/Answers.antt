@@ -7,6 +7,6 @@ pub returns-then-n-transport_size : goal.returns-then-n-transport_size
 unfolding whole_fits
 returns-then-n-transport_size c = rw (← c.transport_size.ensures.0, ne_eqb _ _ c.if-n-transport_size.true)
 
-pub returns-then-n-transport_size : goal.returns
+pub returns : goal.returns
 unfolding whole_fits
-returns-then-n-transport_size c = rw (← c.transport_size.ensures.0, eq-eqb _ _ c.if-n-transport_size.false, c.need.ensures)
+returns c = rw (← c.transport_size.ensures.0, eq-eqb _ _ c.if-n-transport_size.false, c.need.ensures)

@@ -14,9 +14,9 @@ pub returns-then-line-eq35 : goal.returns-then-line-eq35
 unfolding printed
 returns-then-line-eq35 c = rw (ne_eqb _ _ c.if-held-eq0.false, eq-eqb _ _ c.if-line-eq35.true) (sym (put-nil _ 0))
 
-pub returns-then-held-eq0 : goal.returns
+pub returns : goal.returns
 unfolding printed
-returns-then-held-eq0 c =
+returns c =
     let at-answer = (goal.at.returns c).Else-line-eq35 in
     let at-if2 = at-answer.before.before in
     let at-if1 = at-if2.before.before in

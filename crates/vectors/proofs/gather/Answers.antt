@@ -8,8 +8,8 @@ use Rattle.vectors.proofs.gather.Goals as goal
 pub returns-then-held-lt-QUESTION : goal.returns-then-held-lt-QUESTION
 returns-then-held-lt-QUESTION c = (sym (rw (lt-ltb _ _ c.if-held-lt-QUESTION.true)), refl)
 
-pub returns-then-held-lt-QUESTION : goal.returns
-returns-then-held-lt-QUESTION c = record {
+pub returns : goal.returns
+returns c = record {
   value = sym (rw (le-ltb _ _ c.if-held-lt-QUESTION.false));
   line_after = sym (set_out _ _ _ (omega arith));
 }

@@ -7,7 +7,7 @@ pub returns-then-x-eq10 : goal.returns-then-x-eq10
 unfolding came
 returns-then-x-eq10 c = rw (eq-eqb _ _ c.before.before.before.before.before.if1.true, c.end_line.ensures)
 
-pub returns-then-x-eq10 : goal.returns
+pub returns : goal.returns
 unfolding came
-returns-then-x-eq10 c =
+returns c =
     rw (ne_eqb _ _ c.if-x-eq10.false, c.gather.ensures.value, c.gather.ensures.line_after)

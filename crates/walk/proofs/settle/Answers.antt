@@ -7,6 +7,6 @@ returns-then-bad c =
     let told = c.emit-m.ensures in
     settles-bad c.if-bad.true c.blank.ensures told.0 told.1
 
-pub returns-then-bad : goal.returns
-returns-then-bad c =
+pub returns : goal.returns
+returns c =
     settles-left c.if-bad.false c.requires.frame c.blank.ensures c.copy.ensures _

@@ -58,7 +58,7 @@ returns-then-not-four_zero c =
 pub run_zero-requires : goal.run_zero-requires
 run_zero-requires c = (omega arith, omega arith)
 
-pub returns-then-not-four_zero : goal.returns
-returns-then-not-four_zero c =
+pub returns : goal.returns
+returns c =
     let a = c.args in
     c.run_zero.ensures ∙ sym (blank a.s.now a.from ((a.to - a.from) / 4) a.to (omega arith) (search granted))

@@ -24,7 +24,7 @@ returns-then-agrees c =
     sequel-agrees _ _ (sym c.look_at-look.ensures ∙ c.in-Good.is)
     c.size-size.ensures c.agrees.ensures c.if-agrees.true
 
-pub returns-in_default : goal.returns
-returns-in_default c =
+pub returns : goal.returns
+returns c =
     sequel-differs _ _ (sym c.look_at-look.ensures ∙ c.in-Good.is)
     c.size-size.ensures c.agrees.ensures c.if-agrees.false

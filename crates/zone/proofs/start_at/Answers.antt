@@ -11,6 +11,6 @@ returns-in_default c =
     let p = c.args.pointer in
     ⊎_elim (λ tag. sym (ap start_at (tag-no-start p tag))) (λ tag. sym (ap start_at (tag-refused p tag))) c.in_default.keys2
 
-pub returns-in_default : goal.returns
+pub returns : goal.returns
 unfolding start_at
-returns-in_default c = sym (ap start_at c.in-Offset.is)
+returns c = sym (ap start_at c.in-Offset.is)

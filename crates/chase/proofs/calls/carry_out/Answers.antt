@@ -33,8 +33,8 @@ returns-then-letter-eq72 c =
     let e = c.show.ensures in
     (ap (λ (g : Hunter). memory g a.buffer.now) e.0 ∙ sym law.0, (e.1.0, rw law.1 e.1.1))
 
-pub returns-then-letter-eq66 : goal.returns
-returns-then-letter-eq66 c =
+pub returns : goal.returns
+returns c =
     let a = c.args in
     let q = is-q a.x c.requires.2 c.if-letter-eq66.false c.if-letter-eq78.false c.if-letter-eq72.false in
     let law = by-q a.x a.portion.now (memory a.h a.buffer.now) q in

@@ -28,6 +28,6 @@ pub returns-then-letter-eq72 : goal.returns-then-letter-eq72
 unfolding payload_of
 returns-then-letter-eq72 c = search (rules, eq-eqb, ne_eqb)
 
-pub returns-then-x-gt2048 : goal.returns
+pub returns : goal.returns
 unfolding payload_of
-returns-then-x-gt2048 c = search (rules, ne_eqb)
+returns c = search (rules, ne_eqb)

@@ -32,6 +32,6 @@ returns-else-i-lt1024 c =
     let size : length a.h.octets ≡ 1024 = search rules in
     rw (c.if-a-eq3.true, set_out a.h.octets a.x.b (a.x.d % 2 ^ 8) (omega arith))
 
-pub returns-then-a-eq0 : goal.returns
+pub returns : goal.returns
 unfolding poked
-returns-then-a-eq0 c = search (rules, eq-eqb, ne_eqb)
+returns c = search (rules, eq-eqb, ne_eqb)

@@ -15,8 +15,8 @@ slice_bounds-spaced_all-end c =
     let size : length c.before.before.before.before.before.before.before.before.before.args.s.numbers ≡ 6 = search rules in
     omega (arith, size)
 
-pub returns-then-n-eq0 : goal.returns
-returns-then-n-eq0 c =
+pub returns : goal.returns
+returns c =
     let a = c.before.before.before.before.before.before.before.before.before.before.before.before.before.before.before.before.before.before.args in
     let size : length a.s.numbers ≡ 6 = search rules in
     let line = behind (behind c.before.before.before.before.before.before.before.before.before.before.before.before.word2.ensures c.spaced_all-last.ensures.1) c.line_end.ensures.1 in

@@ -12,6 +12,6 @@ returns-then-letter-eq69 c =
     let e = c.enter_file.ensures in
     by-e c.args.x _ _ c.if-letter-eq69.true e.0 e.1
 
-pub returns-then-letter-eq66 : goal.returns
-returns-then-letter-eq66 c =
+pub returns : goal.returns
+returns c =
     by-others c.before.before.before.before.before.before.before.before.before.before.args.x _ _ c.before.before.before.before.before.before.before.if1.false c.before.before.before.before.before.before.if2.false c.set-g.ensures c.answer-s.ensures

@@ -23,5 +23,5 @@ returns-then-letter-eq67 c = rw c.if-letter-eq67.true
 pub returns-then-letter-eq80 : goal.returns-then-letter-eq80
 returns-then-letter-eq80 c = rw c.if-letter-eq80.true
 
-pub returns-then-letter-eq77 : goal.returns
-returns-then-letter-eq77 c = rw (ne_eqb _ _ c.if-letter-eq80.false, ne_eqb _ _ c.if-letter-eq67.false, ne_eqb _ _ c.if-letter-eq73.false, ne_eqb _ _ c.if-letter-eq70.false, ne_eqb _ _ c.if-letter-eq74.false, ne_eqb _ _ c.if-letter-eq66.false, ne_eqb _ _ c.if-letter-eq77.false)
+pub returns : goal.returns
+returns c = rw (ne_eqb _ _ c.if-letter-eq80.false, ne_eqb _ _ c.if-letter-eq67.false, ne_eqb _ _ c.if-letter-eq73.false, ne_eqb _ _ c.if-letter-eq70.false, ne_eqb _ _ c.if-letter-eq74.false, ne_eqb _ _ c.if-letter-eq66.false, ne_eqb _ _ c.if-letter-eq77.false)

@@ -20,6 +20,6 @@ pub returns-then-alone : goal.returns-then-alone
 unfolding payload_of
 returns-then-alone c = simp (ne_eqb _ _ c.if-letter-eq69.false, ne_eqb _ _ c.if-letter-eq87.false, ← c.alone.ensures, c.if-alone.true)
 
-pub returns-then-n-le-BUFFER : goal.returns
+pub returns : goal.returns
 unfolding payload_of
-returns-then-n-le-BUFFER c = simp (ne_eqb _ _ c.if-letter-eq69.false, ne_eqb _ _ c.if-letter-eq87.false, ← c.alone.ensures, c.if-alone.false)
+returns c = simp (ne_eqb _ _ c.if-letter-eq69.false, ne_eqb _ _ c.if-letter-eq87.false, ← c.alone.ensures, c.if-alone.false)

@@ -16,5 +16,5 @@ returns-then-letter-eq73 c = ask-i _ _ _ c.if-letter-eq73.true c.image_at-a.ensu
 pub returns-then-letter-eq67 : goal.returns-then-letter-eq67
 returns-then-letter-eq67 c = ask-c _ _ _ c.if-letter-eq67.true c.channel_at-a.ensures c.channel_said.ensures
 
-pub returns-then-letter-eq74 : goal.returns
-returns-then-letter-eq74 c = ask-none _ _ _ c.if-letter-eq74.false c.if-letter-eq70.false c.if-letter-eq73.false c.if-letter-eq67.false (record { few = omega arith; gives = refl })
+pub returns : goal.returns
+returns c = ask-none _ _ _ c.if-letter-eq74.false c.if-letter-eq70.false c.if-letter-eq73.false c.if-letter-eq67.false (record { few = omega arith; gives = refl })

@@ -21,5 +21,5 @@ returns-then-i-buffer c = set_p c.args.x _ _ c.if-letter-eq80.true refl (omega a
 pub returns-else-i-buffer : goal.returns-else-i-buffer
 returns-else-i-buffer c = set_p c.args.x _ _ c.if-letter-eq80.true (sym (set_out c.args.buffer.now c.args.x.d (c.args.x.b % 256) (omega arith))) (omega arith) (omega arith)
 
-pub returns-then-letter-eq77 : goal.returns
-returns-then-letter-eq77 c = set-none c.args.x _ _ c.if-letter-eq77.false c.if-letter-eq87.false c.if-letter-eq80.false
+pub returns : goal.returns
+returns c = set-none c.args.x _ _ c.if-letter-eq77.false c.if-letter-eq87.false c.if-letter-eq80.false

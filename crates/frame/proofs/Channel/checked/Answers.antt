@@ -17,5 +17,5 @@ module _ (n : ℕ) where
 pub returns-then-n-le-LAST : goal.returns-then-n-le-LAST
 returns-then-n-le-LAST c = sym (low c.args.n (omega arith))
 
-pub returns-then-n-le-LAST : goal.returns
-returns-then-n-le-LAST c = sym (high c.args.n (omega arith))
+pub returns : goal.returns
+returns c = sym (high c.args.n (omega arith))

@@ -17,5 +17,5 @@ module _ (n : ℕ) where
 pub returns-then-n-lt-MODULUS : goal.returns-then-n-lt-MODULUS
 returns-then-n-lt-MODULUS c = sym (low c.args.n (omega arith))
 
-pub returns-then-n-lt-MODULUS : goal.returns
-returns-then-n-lt-MODULUS c = sym (high c.args.n (omega arith))
+pub returns : goal.returns
+returns c = sym (high c.args.n (omega arith))

@@ -5,5 +5,5 @@ use Rattle.packet.proofs.Application.checked.Goals as goal
 pub returns-then-n-le-FILL : goal.returns-then-n-le-FILL
 returns-then-n-le-FILL c = search tests
 
-pub returns-then-n-le-FILL : goal.returns
-returns-then-n-le-FILL c = search tests
+pub returns : goal.returns
+returns c = search tests

@@ -8,5 +8,5 @@ returns-then-self-le-LAST_FILE c = search tests
 pub returns-then-self-le-LAST_OTHER : goal.returns-then-self-le-LAST_OTHER
 returns-then-self-le-LAST_OTHER c = search tests
 
-pub returns-then-self-le-LAST_FILE : goal.returns
-returns-then-self-le-LAST_FILE c = search tests
+pub returns : goal.returns
+returns c = search tests

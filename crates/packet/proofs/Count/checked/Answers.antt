@@ -5,5 +5,5 @@ use Rattle.packet.proofs.Count.checked.Goals as goal
 pub returns-then-n-lt-MODULUS : goal.returns-then-n-lt-MODULUS
 returns-then-n-lt-MODULUS c = search tests
 
-pub returns-then-n-lt-MODULUS : goal.returns
-returns-then-n-lt-MODULUS c = search tests
+pub returns : goal.returns
+returns c = search tests

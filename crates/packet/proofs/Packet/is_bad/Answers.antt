@@ -37,5 +37,5 @@ returns-then-self-gt-LONGEST c = sym (too_long _ (omega arith) (omega arith))
 pub returns-then-application-le-LAST_FILE : goal.returns-then-application-le-LAST_FILE
 returns-then-application-le-LAST_FILE c = sym (of-a-file _ (omega arith) (omega arith) (omega arith))
 
-pub returns-then-self-ne0 : goal.returns
-returns-then-self-ne0 c = sym (of_none _ (omega arith) (omega arith) (omega arith))
+pub returns : goal.returns
+returns c = sym (of_none _ (omega arith) (omega arith) (omega arith))

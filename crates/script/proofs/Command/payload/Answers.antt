@@ -37,6 +37,6 @@ pub returns-then-alone : goal.returns-then-alone
 unfolding payload_of
 returns-then-alone c = (simp (ne_eqb _ _ c.if-letter-eq82.false, ne_eqb _ _ c.if-letter-eq70.false, ne_eqb _ _ c.if-letter-eq83.false, ← c.alone.ensures, c.if-alone.true), search rules)
 
-pub returns-then-self-le64 : goal.returns
+pub returns : goal.returns
 unfolding payload_of
-returns-then-self-le64 c = (simp (ne_eqb _ _ c.if-letter-eq82.false, ne_eqb _ _ c.if-letter-eq70.false, ne_eqb _ _ c.if-letter-eq83.false, ← c.alone.ensures, c.if-alone.false), search rules)
+returns c = (simp (ne_eqb _ _ c.if-letter-eq82.false, ne_eqb _ _ c.if-letter-eq70.false, ne_eqb _ _ c.if-letter-eq83.false, ← c.alone.ensures, c.if-alone.false), search rules)

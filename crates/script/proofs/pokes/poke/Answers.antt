@@ -18,9 +18,9 @@ pub returns-then-letter-eq81 : goal.returns-then-letter-eq81
 unfolding poked_by state_poked
 returns-then-letter-eq81 c = (rw (c.if-letter-eq81.true, c.poke_state-r.ensures), refl)
 
-pub returns-then-letter-eq77 : goal.returns
+pub returns : goal.returns
 unfolding poked_by
-returns-then-letter-eq77 c = record {
+returns c = record {
   store_after = rw (ne_eqb _ _ c.if-letter-eq77.false, ne_eqb _ _ c.if-letter-eq80.false, ne_eqb _ _ c.if-letter-eq81.false);
   end_value = refl;
 }

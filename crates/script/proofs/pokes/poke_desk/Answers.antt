@@ -15,6 +15,6 @@ pub returns-then-a-eq5 : goal.returns-then-a-eq5
 unfolding desk_poked
 returns-then-a-eq5 c = rw c.if-a-eq5.true
 
-pub returns-then-a-eq3 : goal.returns
+pub returns : goal.returns
 unfolding desk_poked
-returns-then-a-eq3 c = simp (ne_eqb _ _ c.if-a-eq5.false, ne_eqb _ _ c.if-a-eq4.false, ne_eqb _ _ c.if-a-eq3.false)
+returns c = simp (ne_eqb _ _ c.if-a-eq5.false, ne_eqb _ _ c.if-a-eq4.false, ne_eqb _ _ c.if-a-eq3.false)

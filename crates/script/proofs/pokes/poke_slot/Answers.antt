@@ -23,6 +23,6 @@ pub returns-then-a-eq12 : goal.returns-then-a-eq12
 unfolding slot_poked
 returns-then-a-eq12 c = rw c.if-a-eq12.true
 
-pub returns-then-a-eq8 : goal.returns
+pub returns : goal.returns
 unfolding slot_poked
-returns-then-a-eq8 c = simp (ne_eqb _ _ c.if-a-eq12.false, ne_eqb _ _ c.if-a-eq11.false, ne_eqb _ _ c.if-a-eq10.false, ne_eqb _ _ c.if-a-eq9.false, ne_eqb _ _ c.if-a-eq8.false)
+returns c = simp (ne_eqb _ _ c.if-a-eq12.false, ne_eqb _ _ c.if-a-eq11.false, ne_eqb _ _ c.if-a-eq10.false, ne_eqb _ _ c.if-a-eq9.false, ne_eqb _ _ c.if-a-eq8.false)

@@ -43,6 +43,6 @@ pub returns-then-a-le12 : goal.returns-then-a-le12
 unfolding poked
 returns-then-a-le12 c = rw (c.poke_slots-after.ensures, slot-poked c.args.a c.args.b c.args.d c.args.s (omega arith) (omega arith))
 
-pub returns-then-a-eq0 : goal.returns
+pub returns : goal.returns
 unfolding poked
-returns-then-a-eq0 c = rw (none-poked c.args.a c.args.b c.args.d c.args.s (omega arith))
+returns c = rw (none-poked c.args.a c.args.b c.args.d c.args.s (omega arith))

@@ -8,6 +8,6 @@ pub returns-then-self-eq0 : goal.returns-then-self-eq0
 unfolding complete held
 returns-then-self-eq0 c = search tests
 
-pub returns-then-self-eq0 : goal.returns
+pub returns : goal.returns
 unfolding complete held
-returns-then-self-eq0 c = rw (ne_eqb _ _ c.if-self-eq0.false, ← c.need.ensures)
+returns c = rw (ne_eqb _ _ c.if-self-eq0.false, ← c.need.ensures)

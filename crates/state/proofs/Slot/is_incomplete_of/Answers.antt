@@ -4,5 +4,5 @@ use Rattle.state.proofs.Slot.is_incomplete_of.Goals as goal
 pub returns-then-is_of : goal.returns-then-is_of
 returns-then-is_of c = rw (← c.is_of.ensures, c.if-is_of.true) c.is_incomplete.ensures
 
-pub returns-then-is_of : goal.returns
-returns-then-is_of c = rw (← c.is_of.ensures, c.if-is_of.false)
+pub returns : goal.returns
+returns c = rw (← c.is_of.ensures, c.if-is_of.false)

@@ -21,5 +21,5 @@ pub returns-then-a-application : goal.returns-then-a-application
 unfolding of_pair
 returns-then-a-application c = search (tests, and-false)
 
-pub returns-then-a-application : goal.returns
-returns-then-a-application c = sym (channels _ _ _ (omega arith) (omega arith))
+pub returns : goal.returns
+returns c = sym (channels _ _ _ (omega arith) (omega arith))

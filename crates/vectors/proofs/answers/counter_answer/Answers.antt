@@ -25,9 +25,9 @@ returns-in_default-checked_next c =
 slice-aggregate-with-number : tie.Need-slice-aggregate-with-number
 slice-aggregate-with-number c = search rules
 
-pub returns-then-q-ne6 : goal.returns
+pub returns : goal.returns
 unfolding counter_text
-returns-then-q-ne6 c = (
+returns c = (
   search rules,
   let at-checked2 = (goal.at.returns c).In-Good-checked_next-1 in
       let at-u24-at2 = at-checked2.before in

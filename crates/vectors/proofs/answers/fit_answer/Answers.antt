@@ -26,9 +26,9 @@ returns-then-not-good_length c = (
 slice-aggregate-with-number : tie.Need-slice-aggregate-with-number
 slice-aggregate-with-number c = search rules
 
-pub returns-then-not-good_length : goal.returns
+pub returns : goal.returns
 unfolding fit_text
-returns-then-not-good_length c = (
+returns c = (
   search rules,
   let q = c.before.before.before.before.before.before.before.before.before.before.before.before.before.before.args.q.now in
       let some : 0 < length q = omega arith in

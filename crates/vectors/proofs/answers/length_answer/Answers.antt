@@ -28,9 +28,9 @@ returns-then-not-good_length c = (
 slice-aggregate-with-number : tie.Need-slice-aggregate-with-number
 slice-aggregate-with-number c = search rules
 
-pub returns-then-q-ne8 : goal.returns
+pub returns : goal.returns
 unfolding length_text
-returns-then-q-ne8 c = (
+returns c = (
   search rules,
   let at-need = (goal.at.returns c).After-need in
       let at-if2 = at-need.before.before in

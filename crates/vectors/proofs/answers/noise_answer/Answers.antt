@@ -34,9 +34,9 @@ returns-then-number-eq0 c = (
 slice-aggregate-word-2 : tie.Need-slice-aggregate-word-2
 slice-aggregate-word-2 c = search rules
 
-pub returns-then-q-ne4 : goal.returns
+pub returns : goal.returns
 unfolding noise_text
-returns-then-q-ne4 c = (
+returns c = (
   search rules,
   let at-if3 = (goal.at.returns c).Else-number-eq0 in
       let at-if2 = at-if3.before in

@@ -7,6 +7,6 @@ pub returns-then-q-lt2 : goal.returns-then-q-lt2
 unfolding numbered_text
 returns-then-q-lt2 c = rw (lt-ltb _ _ c.if-q-lt2.true) c.refusal.ensures
 
-pub returns-then-q-lt2 : goal.returns
+pub returns : goal.returns
 unfolding numbered_text
-returns-then-q-lt2 c = rw (le-ltb _ _ c.if-q-lt2.false) c.record_answer.ensures
+returns c = rw (le-ltb _ _ c.if-q-lt2.false) c.record_answer.ensures

@@ -52,8 +52,8 @@ returns-in_default-checked_count c =
     )
     c.refusal-in_default-checked_count.ensures
 
-pub returns-then-q-ne17 : goal.returns
-returns-then-q-ne17 c =
+pub returns : goal.returns
+returns c =
     let q =
     c.args.q.now in
     let some : 0 < length q = omega arith in

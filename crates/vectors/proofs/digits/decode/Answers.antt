@@ -27,8 +27,8 @@ loop-i-preserved c =
     let inv = c.loop-i.invariant in
     (omega arith, simp length-set inv.1, more inv.2 (omega arith) _ (omega arith) (omega arith) (omega arith) (omega arith))
 
-pub returns-then-digits-ne0 : goal.returns
-returns-then-digits-ne0 c =
+pub returns : goal.returns
+returns c =
     let inv = c.loop-i.invariant in
     record {
       result_bound = omega arith;

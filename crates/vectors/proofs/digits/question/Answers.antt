@@ -10,8 +10,8 @@ returns-then-line-eq1 c = (omega arith, letter-alone _ c.if-line-eq1.true)
 pub returns-then-line-ne32 : goal.returns-then-line-ne32
 returns-then-line-ne32 c = (omega arith, no-space _ (omega arith) c.if-line-ne32.true)
 
-pub returns-then-line-eq1 : goal.returns
-returns-then-line-eq1 c =
+pub returns : goal.returns
+returns c =
     let decoded = c.decode.ensures in
     record {
       result_bound = decoded.0;

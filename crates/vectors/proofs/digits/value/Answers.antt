@@ -27,6 +27,6 @@ pub returns-then-x-le102 : goal.returns-then-x-le102
 unfolding value_of
 returns-then-x-le102 c = search tests
 
-pub returns-then-x-lt48 : goal.returns
+pub returns : goal.returns
 unfolding value_of
-returns-then-x-lt48 c = search tests
+returns c = search tests
