@@ -274,6 +274,8 @@ def turn(path, v, crate, dotted, requires):
         m = re.match(r"(\S+) : tie\.Need-(\S+)((?: \S+)*)$", sig)
         if m:
             j = fn.need(m.group(2), used)
+            if j is None and re.match(r"nonzero-|slice-aggregate-|array-aggregate-", m.group(2)):
+                continue  # today's check settles such a goal without asking
             if j is None:
                 answers.append("\n".join(above + ["-- NOT TURNED"] + lines))
                 continue
@@ -288,7 +290,7 @@ def turn(path, v, crate, dotted, requires):
                 answers.append("\n".join(above + ["-- NOT TURNED"] + lines))
                 continue
             term = n.group(3).strip()
-            plain = re.fullmatch(r"search rules|omega arith", term)
+            plain = not opened and re.fullmatch(r"search rules|omega arith", term)
             if re.fullmatch(r"record \{.*\}", term, re.S) is None and new in v["asked"] and len(v["asked"][new]) > 1:
                 for cut in [0] + [q.end() for q in re.finditer(r"\bin\s+(?=\()", term)]:
                     fs = fields_of(term[cut:], v["asked"][new])

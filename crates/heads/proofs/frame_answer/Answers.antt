@@ -4,10 +4,6 @@ use Rattle.text.proofs.Following.{behind}
 use Rattle.heads.specs.Heads.{frame_text}
 use Rattle.heads.proofs.frame_answer.Goals as goal
 
--- NOT TURNED
-slice-aggregate-with-three : tie.Need-slice-aggregate-with-three
-slice-aggregate-with-three c = search rules
-
 pub returns : goal.returns
 unfolding frame_text
 returns c = (

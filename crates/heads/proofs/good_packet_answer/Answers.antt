@@ -4,10 +4,6 @@ use Rattle.text.proofs.Following.{behind}
 use Rattle.heads.specs.Heads.{packet_text}
 use Rattle.heads.proofs.good_packet_answer.Goals as goal
 
--- NOT TURNED
-slice-aggregate-with-number : tie.Need-slice-aggregate-with-number
-slice-aggregate-with-number c = search rules
-
 pub returns : goal.returns
 unfolding packet_text
 returns c = (

@@ -3,17 +3,9 @@ use borrow.Author.Rules.{rules}
 use Rattle.heads.specs.Heads.{packet_text}
 use Rattle.heads.proofs.packet_answer.Goals as goal
 
--- NOT TURNED
-slice-aggregate-word : tie.Need-slice-aggregate-word
-slice-aggregate-word c = search rules
-
 pub returns-in-Short : goal.returns-in-Short
 unfolding packet_text
 returns-in-Short c = (search rules, rw c.in-Short.is c.word.ensures)
-
--- NOT TURNED
-slice-aggregate-word-2 : tie.Need-slice-aggregate-word-2
-slice-aggregate-word-2 c = search rules
 
 pub returns-in-Bad : goal.returns-in-Bad
 unfolding packet_text

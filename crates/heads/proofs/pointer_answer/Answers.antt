@@ -5,10 +5,6 @@ use Rattle.text.proofs.Following.{behind}
 use Rattle.heads.specs.Heads.{meaning_text}
 use Rattle.heads.proofs.pointer_answer.Goals as goal
 
--- NOT TURNED
-slice-aggregate-with-number : tie.Need-slice-aggregate-with-number
-slice-aggregate-with-number c = search rules
-
 pub returns-in-Offset : goal.returns-in-Offset
 unfolding meaning_text
 returns-in-Offset c = (
@@ -19,10 +15,6 @@ returns-in-Offset c = (
       (behind at-number.number.ensures.1 c.with_number.ensures.1),
 )
 
--- NOT TURNED
-slice-aggregate-word : tie.Need-slice-aggregate-word
-slice-aggregate-word c = search rules
-
 pub returns-in-NoStart : goal.returns-in-NoStart
 unfolding meaning_text
 returns-in-NoStart c = (
@@ -32,10 +24,6 @@ returns-in-NoStart c = (
       rw (sym at-meaning.meaning.ensures ∙ c.in-NoStart.is)
       (behind at-number.number.ensures.1 c.word.ensures),
 )
-
--- NOT TURNED
-slice-aggregate-word-2 : tie.Need-slice-aggregate-word-2
-slice-aggregate-word-2 c = search rules
 
 pub returns-in-Refused : goal.returns-in-Refused
 unfolding meaning_text

@@ -3,10 +3,6 @@ use borrow.Author.Rules.{rules}
 use Rattle.text.proofs.Following.{behind}
 use Rattle.lines.proofs.event.Goals as goal
 
--- NOT TURNED
-slice-aggregate-with-three : tie.Need-slice-aggregate-with-three
-slice-aggregate-with-three c = search rules
-
 pub returns : goal.returns
 returns c =
     let line = behind c.with_three-end.ensures.1 c.line_end.ensures.1 in

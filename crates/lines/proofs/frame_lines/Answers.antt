@@ -3,10 +3,6 @@ use borrow.Author.Rules.{rules}
 use Rattle.text.proofs.Following.{behind}
 use Rattle.lines.proofs.frame_lines.Goals as goal
 
--- NOT TURNED
-slice-aggregate-with-number : tie.Need-slice-aggregate-with-number
-slice-aggregate-with-number c = search rules
-
 pub returns : goal.returns
 returns c =
     let count = behind c.with_number-first.ensures.1 c.number-last.ensures.1 in

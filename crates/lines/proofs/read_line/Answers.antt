@@ -4,10 +4,6 @@ use Rattle.text.proofs.Following.{behind}
 use Rattle.lines.proofs.Telling.{no-octets, no_length, some-octets}
 use Rattle.lines.proofs.read_line.Goals as goal
 
--- NOT TURNED
-slice-aggregate-with-number : tie.Need-slice-aggregate-with-number
-slice-aggregate-with-number c = search rules
-
 pub returns-then-answer-ne0 : goal.returns-then-answer-ne0
 returns-then-answer-ne0 c =
     let line = behind c.with_number-last.ensures.1 c.line_end.ensures.1 in
@@ -17,10 +13,6 @@ pub returns-then-read-eq0 : goal.returns-then-read-eq0
 returns-then-read-eq0 c =
     let line = behind c.with_number-last.ensures.1 c.line_end-then-read-eq0.ensures.1 in
     (search rules, no_length _ c.before.before.before.before.before.before.before.before.before.before.before.before.before.args.read.now c.if-read-eq0.true line)
-
--- NOT TURNED
-slice-aggregate-word : tie.Need-slice-aggregate-word
-slice-aggregate-word c = search rules
 
 pub returns : goal.returns
 returns c =

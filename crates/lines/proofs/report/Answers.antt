@@ -4,7 +4,6 @@ use mathlib.Core.Bool.{Bool}
 use mathlib.Core.List.{List, [], ◌∷◌}
 use Prim.Native.Nat.{ℕ, ◌+◌, ◌≤◌}
 use native.Mathlib.Omega.{arith}
-use borrow.Author.Rules.{rules}
 use borrow.Author.Tests.{eq-eqb, ne_eqb}
 use Rattle.octets.specs.Choice.{if◌then◌else◌}
 use Rattle.text.specs.Pieces.{Written}
@@ -20,19 +19,11 @@ module _ (answer : ℕ) (complete : Bool) {before after : List ℕ} {at end : �
 pub returns-then-answer-ne0 : goal.returns-then-answer-ne0
 returns-then-answer-ne0 c = (omega arith, rw (ne_eqb _ 0 c.if-answer-ne0.true) (nothing _ _))
 
--- NOT TURNED
-slice-aggregate-word : tie.Need-slice-aggregate-word
-slice-aggregate-word c = search rules
-
 pub returns-then-complete : goal.returns-then-complete
 returns-then-complete c =
     let a = c.before.before.before.before.before.before.before.before.args in
     told a.answer a.complete c.before.before.before.before.before.before.if1.false
     (rw c.if-complete.true c.word.ensures)
-
--- NOT TURNED
-slice-aggregate-word-2 : tie.Need-slice-aggregate-word-2
-slice-aggregate-word-2 c = search rules
 
 pub returns : goal.returns
 returns c =

@@ -4,10 +4,6 @@ use borrow.Author.Rules.{rules}
 use Rattle.text.proofs.Following.{behind, nothing}
 use Rattle.lines.proofs.told_line.Goals as goal
 
--- NOT TURNED
-slice-aggregate-with-number : tie.Need-slice-aggregate-with-number
-slice-aggregate-with-number c = search rules
-
 pub returns : goal.returns
 unfolding flat_map
 returns c =

@@ -3,9 +3,5 @@ use borrow.Author.Rules.{rules}
 use Rattle.text.proofs.Following.{behind}
 use Rattle.printout.proofs.end_line.Goals as goal
 
--- NOT TURNED
-slice-aggregate-with-three : tie.Need-slice-aggregate-with-three
-slice-aggregate-with-three c = search rules
-
 pub returns : goal.returns
 returns c = (search rules, behind c.with_three-last.ensures.1 c.line_end.ensures.1)

@@ -6,22 +6,6 @@ use Rattle.printout.proofs.image_text.Goals as goal
 pub returns-in_default : goal.returns-in_default
 returns-in_default c = (search rules, rw c.in_default.is (nothing _ _))
 
--- NOT TURNED
-slice-aggregate-two-numbers : tie.Need-slice-aggregate-two-numbers
-slice-aggregate-two-numbers c = search rules
-
--- NOT TURNED
-slice-aggregate-two-numbers-2 : tie.Need-slice-aggregate-two-numbers-2
-slice-aggregate-two-numbers-2 c = search rules
-
--- NOT TURNED
-slice-aggregate-two-numbers-3 : tie.Need-slice-aggregate-two-numbers-3
-slice-aggregate-two-numbers-3 c = search rules
-
--- NOT TURNED
-slice-aggregate-two-numbers-4 : tie.Need-slice-aggregate-two-numbers-4
-slice-aggregate-two-numbers-4 c = search rules
-
 pub returns : goal.returns
 returns c =
     (search rules, rw c.in-There.is (behind c.two_numbers-size.ensures.1 c.two_numbers.ensures.1))

@@ -3,9 +3,5 @@ use borrow.Author.Rules.{rules}
 use Rattle.text.proofs.Following.{behind}
 use Rattle.printout.proofs.refused_line.Goals as goal
 
--- NOT TURNED
-slice-aggregate-with-number : tie.Need-slice-aggregate-with-number
-slice-aggregate-with-number c = search rules
-
 pub returns : goal.returns
 returns c = (search rules, behind c.with_number-last.ensures.1 c.line_end.ensures.1)

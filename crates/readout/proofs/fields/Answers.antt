@@ -4,10 +4,6 @@ use Rattle.text.proofs.Following.{behind}
 use Rattle.readout.specs.Readout.{fields_text}
 use Rattle.readout.proofs.fields.Goals as goal
 
--- NOT TURNED
-slice-aggregate-with-number : tie.Need-slice-aggregate-with-number
-slice-aggregate-with-number c = search rules
-
 pub returns : goal.returns
 unfolding fields_text
 returns c = (

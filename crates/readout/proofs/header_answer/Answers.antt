@@ -3,10 +3,6 @@ use borrow.Author.Rules.{rules}
 use Rattle.readout.specs.Readout.{header_text}
 use Rattle.readout.proofs.header_answer.Goals as goal
 
--- NOT TURNED
-slice-aggregate-with-number : tie.Need-slice-aggregate-with-number
-slice-aggregate-with-number c = search rules
-
 pub returns-in-Refused : goal.returns-in-Refused
 unfolding header_text
 returns-in-Refused c = (

@@ -8,10 +8,6 @@ pub returns-in_default : goal.returns-in_default
 unfolding image_text
 returns-in_default c = (search rules, rw c.in_default.is (nothing _ _))
 
--- NOT TURNED
-slice-aggregate-with-three : tie.Need-slice-aggregate-with-three
-slice-aggregate-with-three c = search rules
-
 pub returns : goal.returns
 unfolding image_text
 returns c = (

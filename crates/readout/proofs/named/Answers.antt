@@ -3,9 +3,5 @@ use borrow.Author.Rules.{rules}
 use Rattle.text.proofs.Following.{behind}
 use Rattle.readout.proofs.named.Goals as goal
 
--- NOT TURNED
-slice-aggregate-word : tie.Need-slice-aggregate-word
-slice-aggregate-word c = search rules
-
 pub returns : goal.returns
 returns c = (search rules, behind c.word-word.ensures c.hex_octets.ensures.1)

@@ -6,10 +6,6 @@ use Rattle.text.proofs.Following.{behind}
 use Rattle.readout.specs.Readout.{record_text}
 use Rattle.readout.proofs.record_answer.Goals as goal
 
--- NOT TURNED
-slice-aggregate-with-number : tie.Need-slice-aggregate-with-number
-slice-aggregate-with-number c = search rules
-
 pub returns-in-Refused : goal.returns-in-Refused
 unfolding record_text
 returns-in-Refused c = (
@@ -19,10 +15,6 @@ returns-in-Refused c = (
       rw (← whole-rest start.args.q.now 2, ← at-u16-at.u16-at.ensures, sym at-read-record.read-record.ensures.0 ∙ c.in-Refused.is)
       c.with_number.ensures.1,
 )
-
--- NOT TURNED
-slice-aggregate-with-number-2 : tie.Need-slice-aggregate-with-number-2
-slice-aggregate-with-number-2 c = search rules
 
 pub returns-in-Found : goal.returns-in-Found
 unfolding record_text

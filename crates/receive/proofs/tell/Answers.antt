@@ -1,11 +1,6 @@
 -- `receive::tell` meets its contract. Assumes nothing.
-use borrow.Author.Rules.{rules}
 use Rattle.text.proofs.Following.{behind}
 use Rattle.receive.proofs.tell.Goals as goal
-
--- NOT TURNED
-slice-aggregate-word : tie.Need-slice-aggregate-word
-slice-aggregate-word c = search rules
 
 pub returns : goal.returns
 returns c =

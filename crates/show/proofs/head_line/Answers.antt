@@ -3,10 +3,6 @@ use borrow.Author.Rules.{rules}
 use Rattle.text.proofs.Following.{behind}
 use Rattle.show.proofs.head_line.Goals as goal
 
--- NOT TURNED
-slice-aggregate-word : tie.Need-slice-aggregate-word
-slice-aggregate-word c = search rules
-
 pub returns : goal.returns
 returns c =
     let second = behind c.word-letter.ensures c.number-second.ensures.1 in

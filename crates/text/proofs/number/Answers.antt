@@ -4,10 +4,6 @@ use Rattle.text.specs.Pieces.{spaced}
 use Rattle.text.proofs.Following.{behind}
 use Rattle.text.proofs.number.Goals as goal
 
--- NOT TURNED
-slice-aggregate-word : tie.Need-slice-aggregate-word
-slice-aggregate-word c = search rules
-
 pub returns : goal.returns
 unfolding spaced
 returns c =

@@ -4,10 +4,6 @@ use Rattle.text.specs.Pieces.{spaced_signed}
 use Rattle.text.proofs.Following.{behind}
 use Rattle.text.proofs.signed.Goals as goal
 
--- NOT TURNED
-slice-aggregate-word : tie.Need-slice-aggregate-word
-slice-aggregate-word c = search rules
-
 pub returns-then-negative : goal.returns-then-negative
 unfolding spaced_signed
 returns-then-negative c =

@@ -1,6 +1,8 @@
 -- `transport::rest` meets its contract: the blocks before the last hold less than the whole. Assumes nothing.
 use Prim.Native.Nat.{◌+◌, ◌*◌, ◌≤◌, ◌<◌}
 use native.Mathlib.Omega.{arith}
+use borrow.Author.Rules.{rules}
+use Rattle.transport.specs.Length.{rest}
 use Rattle.transport.proofs.Length.{need-one, need-least}
 use Rattle.transport.proofs.rest.Goals as goal
 use Rattle.transport.proofs.rest.Goals.{After-need}
@@ -16,3 +18,7 @@ overflow_mul-result c = omega (arith, few c)
 
 pub overflow_sub-result-2 : goal.overflow_sub-result-2
 overflow_sub-result-2 c = omega (arith, few c)
+
+pub returns : goal.returns
+unfolding rest
+returns c = search rules

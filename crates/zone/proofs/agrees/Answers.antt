@@ -1,5 +1,6 @@
 -- `zone::agrees` is the definition of the same name, by what the pointer says. Assumes nothing.
 use mathlib.Core.Path.{sym, ap}
+use borrow.Author.Rules.{rules}
 use Rattle.frame.proofs.Tags.{tag-no-start}
 use Rattle.zone.specs.Zone.{agrees}
 use Rattle.zone.proofs.agrees.Goals as goal
@@ -13,3 +14,7 @@ unfolding agrees
 returns-in-NoStart c =
     let i = c.args in
     sym (ap (agrees i.lacked) (tag-no-start i.pointer c.in-NoStart.keys2))
+
+pub returns-in-Refused : goal.returns-in-Refused
+unfolding agrees
+returns-in-Refused c = search rules

@@ -21,10 +21,6 @@ returns-in_default-checked_next c =
     let at-u24-at2 = at-checked2.before in
     absurd (no-bad-counter _ at-u24-at2.u24-at2.ensures.1 (sym at-checked2.checked2.ensures ∙ c.in_default-checked_next.is))
 
--- NOT TURNED
-slice-aggregate-with-number : tie.Need-slice-aggregate-with-number
-slice-aggregate-with-number c = search rules
-
 pub returns : goal.returns
 unfolding counter_text
 returns c = (

@@ -4,10 +4,6 @@ use Rattle.text.proofs.Following.{behind}
 use Rattle.vectors.specs.Answers.{crc_text}
 use Rattle.vectors.proofs.answers.crc_answer.Goals as goal
 
--- NOT TURNED
-slice-aggregate-word : tie.Need-slice-aggregate-word
-slice-aggregate-word c = search rules
-
 pub returns : goal.returns
 unfolding crc_text
 returns c = (

@@ -9,10 +9,6 @@ use Rattle.vectors.specs.Answers.{fit_text}
 use Rattle.vectors.proofs.Checks.{as_number}
 use Rattle.vectors.proofs.answers.fit_answer.Goals as goal
 
--- NOT TURNED
-slice-aggregate-word : tie.Need-slice-aggregate-word
-slice-aggregate-word c = search rules
-
 pub returns-then-not-good_length : goal.returns-then-not-good_length
 unfolding fit_text
 returns-then-not-good_length c = (
@@ -21,10 +17,6 @@ returns-then-not-good_length c = (
       let at-u64-at = at-good-length.before in
       rw (← at-u64-at.u64-at.ensures, denied at-good-length.good_length.ensures c.if-not-good_length.true-raw) c.word.ensures,
 )
-
--- NOT TURNED
-slice-aggregate-with-number : tie.Need-slice-aggregate-with-number
-slice-aggregate-with-number c = search rules
 
 pub returns : goal.returns
 unfolding fit_text

@@ -9,10 +9,6 @@ use Rattle.vectors.proofs.answers.length_answer.Goals as goal
 pub returns-then-q-ne8 : goal.returns-then-q-ne8
 returns-then-q-ne8 c = rw (ne_eqb _ _ c.if-q-ne8.true) c.refusal.ensures
 
--- NOT TURNED
-slice-aggregate-word : tie.Need-slice-aggregate-word
-slice-aggregate-word c = search rules
-
 pub returns-then-not-good_length : goal.returns-then-not-good_length
 unfolding length_text
 returns-then-not-good_length c = (
@@ -23,10 +19,6 @@ returns-then-not-good_length c = (
       rw (eq-eqb _ _ at-if1.if1.false, ← at-u64-at.u64-at.ensures, denied at-good-length.good_length.ensures c.if-not-good_length.true-raw)
       c.word.ensures,
 )
-
--- NOT TURNED
-slice-aggregate-with-number : tie.Need-slice-aggregate-with-number
-slice-aggregate-with-number c = search rules
 
 pub returns : goal.returns
 unfolding length_text

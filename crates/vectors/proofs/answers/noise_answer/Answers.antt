@@ -15,10 +15,6 @@ returns-then-number-gt1024 c =
     let at-if1 = at-u16-at2.before.before in
     rw (eq-eqb _ _ at-if1.if1.false, ← at-u16-at2.u16-at2.ensures, lt-ltb _ _ c.if-number-gt1024.true) c.refusal-then-number-gt1024.ensures
 
--- NOT TURNED
-slice-aggregate-word : tie.Need-slice-aggregate-word
-slice-aggregate-word c = search rules
-
 pub returns-then-number-eq0 : goal.returns-then-number-eq0
 unfolding noise_text
 returns-then-number-eq0 c = (
@@ -29,10 +25,6 @@ returns-then-number-eq0 c = (
       rw (eq-eqb _ _ at-if1.if1.false, ← at-u16-at2.u16-at2.ensures, le-ltb _ _ at-if2.if2.false, eq-eqb _ _ c.if-number-eq0.true)
       c.word.ensures,
 )
-
--- NOT TURNED
-slice-aggregate-word-2 : tie.Need-slice-aggregate-word-2
-slice-aggregate-word-2 c = search rules
 
 pub returns : goal.returns
 unfolding noise_text
