@@ -97,49 +97,58 @@ class Turn:
     def __init__(self, fn, own_goal, at):
         self.fn, self.goal, self.at = fn, own_goal, at
         self.roots = {}
+        self.raw = {}
 
-    def step(self, i, segs):
-        """The new path of the old one `segs` at place i."""
-        v = self.fn.v
-        head = segs[0]
-        if i == 0 and head in ("args", "requires", "pre", "ranges", "lifetimes", "well_formed"):
-            rest = segs[1:]
-            if head == "pre":
-                head = "requires"
-            if head == "requires" and v.get("pre"):
-                rest = self.index(v["pre"]["fields"], rest)
-            return [head] + rest
-        places, j = v["places"], i
+    def step(self, i, segs, at):
+        """The new path of the old one `segs` at place i, on the way from the goal's place `at` to the start."""
+        way = []
+        j = at
         while j is not None:
-            arm = v["arms"][j]
-            if arm:
-                best = None
-                for field, oldstep, oldpath in arm[2]:
-                    if norm(oldstep) == norm(head) and segs[1:1 + len(oldpath)] == oldpath and not field.endswith("-own"):
-                        if best is None or len(oldpath) > len(best[1]):
-                            best = (field, oldpath)
-                if best:
-                    return [arm[0], best[0]] + segs[1 + len(best[1]):]
-            own = places[j][2]
-            bare = re.sub(r"\d+$", "", norm(head))
-            if norm(own[0]) == norm(head) or (j == i and norm(own[0]) == bare and own[0]):
-                for var, known in v["typed"][j]:
-                    if norm(known) == norm(head):
-                        rest = segs[1:]
-                        return ["type_inv", var] + (rest[1:] if rest[:1] == ["given"] else rest)
-                rest = segs[1:]
-                swap = dict((a, b) for a, b in places[j][4])
-                if rest and rest[0] in swap:
-                    rest = [swap[rest[0]]] + rest[1:]
-                if rest[:1] == ["ensures"] and v["clauses"][j]:
-                    rest = ["ensures"] + self.index(v["clauses"][j]["fields"], rest[1:])
-                if rest[:1] == ["inv"]:
-                    rest = ["invariant"] + rest[1:]
-                return [own[1]] + rest
-            if j == i and not self.fn.inner(j):
-                break
+            way.append(j)
             j = self.fn.parent[j]
+        here = way.index(i) if i in way else 0
+        head = norm(segs[0])
+        if head in ("args", "requires", "pre", "ranges", "lifetimes", "well_formed"):
+            head = "requires" if head == "pre" else head
+            rest = segs[1:]
+            if head == "requires" and self.fn.v.get("pre"):
+                rest = self.index(self.fn.v["pre"]["fields"], rest)
+            return [head] + rest
+        # the walk may have a step more or fewer than before: the nearest place with a step of that name
+        for exact in (True, False):
+            for k in sorted(range(len(way)), key=lambda k: abs(k - here)):
+                got = self.own(way[k], head, segs, exact and k == here or not exact)
+                if got:
+                    return got
         return None
+
+    def own(self, j, head, segs, loose):
+        v = self.fn.v
+        arm = v["arms"][j]
+        if arm:
+            best = None
+            for field, oldstep, oldpath in arm[2]:
+                if norm(oldstep) == head and segs[1:1 + len(oldpath)] == oldpath and not field.endswith("-own"):
+                    if best is None or len(oldpath) > len(best[1]):
+                        best = (field, oldpath)
+            if best:
+                return [arm[0], best[0]] + segs[1 + len(best[1]):]
+        own = v["places"][j][2]
+        bare = re.sub(r"\d+$", "", head)
+        if not own[0] or not (norm(own[0]) == head or (loose and norm(own[0]) == bare)):
+            return None
+        rest = segs[1:]
+        for var, known in v["typed"][j]:
+            if norm(known) == norm(own[0]):
+                return ["type_inv", var] + (rest[1:] if rest[:1] == ["given"] else rest)
+        swap = dict((a, b) for a, b in v["places"][j][4])
+        if rest and rest[0] in swap:
+            rest = [swap[rest[0]]] + rest[1:]
+        if rest[:1] == ["ensures"] and v["clauses"][j]:
+            rest = ["ensures"] + self.index(v["clauses"][j]["fields"], rest[1:])
+        if rest[:1] == ["inv"]:
+            rest = ["invariant"] + rest[1:]
+        return [own[1]] + rest
 
     def index(self, names, rest):
         if rest and rest[0].isdigit():
@@ -154,16 +163,14 @@ class Turn:
     def resolve(self, var, segs):
         i, root = self.roots[var]
         while segs and segs[0] == "before":
-            if self.fn.parent[i] is None:
-                return None
-            i, segs = self.fn.parent[i], segs[1:]
+            i, segs = (i if self.fn.parent[i] is None else self.fn.parent[i]), segs[1:]
         return i, root, segs
 
     def text(self, t):
         # a `let` that only names a place goes
         while True:
             again = False
-            for m in re.finditer(rf"let ({SEG}) = ([A-Za-z_][\w']*)((?:\.before)*) in\s*", t):
+            for m in re.finditer(rf"let ({SEG}) = ({SEG})((?:\.before)*) in\s*", t):
                 if m.group(2) in self.roots:
                     r = self.resolve(m.group(2), [s for s in m.group(3).split(".") if s])
                     if r and not r[2]:
@@ -186,7 +193,7 @@ class Turn:
                     return var
                 self.uses = True
                 return f"(goal.at.{goal} {var}).{self.fn.place_name(i)}"
-            s = self.step(i, segs)
+            s = self.step(i, segs, self.raw.get(var, at))
             return m.group(0) if s is None else ".".join([var] + s)
 
         return PATH.sub(one, t)
@@ -299,6 +306,7 @@ def turn(path, v, crate, dotted, requires):
                         break
             t = Turn(fn, new, at)
             t.roots[n.group(1)] = (at, (n.group(1), at, new))
+            t.raw[n.group(1)] = at
             term = t.text(cite(term))
             nl = n.group(3).startswith("\n")
             answers.append("\n".join(above + [f"pub {new} : goal.{new}"]) + "\n" + opened + f"{new} {n.group(1)} =" + ("\n    " if nl else " ") + term)
@@ -331,6 +339,7 @@ def turn(path, v, crate, dotted, requires):
         for var, i in roots.items():
             t = Turn(fn, None, i)
             t.roots[var] = (i, (var, fn.shown(i), fn.place_name(i)))
+            t.raw[var] = i
             b = t.text(b)
         helpers.append("\n".join(above + [b]))
     # an easy answer stays only where another one cites it

@@ -14,7 +14,7 @@ use Rattle.act.proofs.begin_over.Goals.{Start}
 
 sized : (c : Start) → Sized (station_of c.args.head c.args.owner.now c.args.slots)
 sized c =
-    record { watched = search (rules, unmap); desks = search (rules, unmap); owner = c.requires.0.owners; slots = search (rules, unmap) }
+    record { watched = search (rules, unmap); desks = search (rules, unmap); owner = c.requires.ready.owners; slots = search (rules, unmap) }
 
 pub returns-in-Denied : goal.returns-in-Denied
 returns-in-Denied c =
@@ -24,9 +24,9 @@ returns-in-Denied c =
 
 pub open_at-requires : goal.open_at-requires
 open_at-requires c =
-    let f = left-fresh _ (sized (goal.at.open_at-requires c).Start) _ _ _ c.end_file-ended.ensures.slots_after (i.requires.1.1 ∙ c.in-Granted.is) in record {
-      ready = ready-gone _ 2 _ (sized (goal.at.open_at-requires c).Start) i.requires.1.0 i.requires.0 c.end_file-ended.ensures.slots_after c.end_file-ended.ensures.events_value.0 c.end_file-ended.ensures.events_value.1;
-      k_bound = (f.low, f.free, f.some, f.fits, i.requires.1.2);
+    let f = left-fresh _ (sized (goal.at.open_at-requires c).Start) _ _ _ c.end_file-ended.ensures.slots_after (c.requires.k_bound.1 ∙ c.in-Granted.is) in record {
+      ready = ready-gone _ 2 _ (sized (goal.at.open_at-requires c).Start) c.requires.k_bound.0 c.requires.ready c.end_file-ended.ensures.slots_after c.end_file-ended.ensures.events_value.0 c.end_file-ended.ensures.events_value.1;
+      k_bound = (f.low, f.free, f.some, f.fits, c.requires.k_bound.2);
     }
 
 pub returns-in-Granted : goal.returns-in-Granted

@@ -23,27 +23,27 @@ use Rattle.act.proofs.carry_out.Goals.{Start}
 
 sized : (c : Start) → Sized (station_of c.args.head c.args.owner.now c.args.slots)
 sized c =
-    record { watched = search (rules, unmap); desks = search (rules, unmap); owner = c.requires.0.owners; slots = search (rules, unmap) }
+    record { watched = search (rules, unmap); desks = search (rules, unmap); owner = c.requires.ready.owners; slots = search (rules, unmap) }
 
 checked : (i : Start) → 9 ≤ length i.args.packet.now
-checked i = whole-checked i.requires.1.0 (does-file _ _ _ _ i.requires.1.2)
+checked i = whole-checked i.requires.whole.0 (does-file _ _ _ _ i.requires.whole.2)
 
 few : (i : Start) → length (part 6 (length i.args.packet.now - 2 - 6) i.args.packet.now) ≤ 8190
-few i = rw data-cut (data-few i.requires.1.0)
+few i = rw data-cut (data-few i.requires.whole.0)
 
 ruled : (i : Start) {a : Act} → i.args.act ≡ a → ruling_of i.args.channel i.args.head.blocks i.args.slots i.args.packet.now ≡ Does a
-ruled i e = i.requires.1.2 ∙ ap Does e
+ruled i e = i.requires.whole.2 ∙ ap Does e
 
 -- what is known of the act, and what the packet does by it
 known : (i : Start) {a : Act} → i.args.act ≡ a
     → Decided i.args.channel i.args.head.blocks i.args.slots i.args.h (part 6 (length i.args.packet.now - 2 - 6) i.args.packet.now) a
-known i e = does-known _ _ _ _ (ruled i e) i.requires.1.1 (data-cut i.args.packet.now)
+known i e = does-known _ _ _ _ (ruled i e) i.requires.whole.1 (data-cut i.args.packet.now)
 
 does : (i : Start) {a : Act} → i.args.act ≡ a
     → judged i.args.channel (station_of i.args.head i.args.owner.now i.args.slots) i.args.store.now i.args.packet.now
     ≡ acted i.args.channel (station_of i.args.head i.args.owner.now i.args.slots) i.args.store.now i.args.h
     (part 6 (length i.args.packet.now - 2 - 6) i.args.packet.now) a
-does i e = ruled-does _ _ _ _ i.requires.1.1 (data-cut i.args.packet.now) (ruled i e)
+does i e = ruled-does _ _ _ _ i.requires.whole.1 (data-cut i.args.packet.now) (ruled i e)
 
 pub slice_bounds-data-count : goal.slice_bounds-data-count
 slice_bounds-data-count c = omega (arith, checked (goal.at.slice_bounds-data-count c).Start)
@@ -55,7 +55,7 @@ pub open_at-requires : goal.open_at-requires
 open_at-requires c =
     let f = placed-fresh _ (sized (goal.at.open_at-requires c).Start) _ _ (known (goal.at.open_at-requires c).Start c.in-Opens.is) in
     record {
-      ready = ready-less i.requires.0 2 (omega arith);
+      ready = ready-less c.requires.ready 2 (omega arith);
       k_bound = (f.low, f.free, f.some, f.fits, few (goal.at.open_at-requires c).Start);
     }
 
@@ -66,9 +66,9 @@ returns-in-Opens c =
 pub begin_over-requires : goal.begin_over-requires
 begin_over-requires c =
     let known = known (goal.at.begin_over-requires c).Start c.in-Over.is in
-    let low = (found-going _ (sized (goal.at.begin_over-requires c).Start) i.requires.0.sound _ _ known.0).low in
+    let low = (found-going _ (sized (goal.at.begin_over-requires c).Start) c.requires.ready.sound _ _ known.0).low in
     record {
-      ready = i.requires.0;
+      ready = c.requires.ready;
       k_bound = (low, known.1, few (goal.at.begin_over-requires c).Start);
     }
 
@@ -78,9 +78,9 @@ returns-in-Over c =
 
 pub go_on-requires : goal.go_on-requires
 go_on-requires c =
-    let g = found-going _ (sized (goal.at.go_on-requires c).Start) i.requires.0.sound _ _ (known (goal.at.go_on-requires c).Start c.in-GoesOn.is) in
-    let least = i.requires.0.sound.set_up.least in record {
-      k_bound = (g.low, omega (arith, i.requires.0.owners, least), i.requires.0.blocks, omega (arith, i.requires.0.enough));
+    let g = found-going _ (sized (goal.at.go_on-requires c).Start) c.requires.ready.sound _ _ (known (goal.at.go_on-requires c).Start c.in-GoesOn.is) in
+    let least = c.requires.ready.sound.set_up.least in record {
+      k_bound = (g.low, omega (arith, c.requires.ready.owners, least), c.requires.ready.blocks, omega (arith, c.requires.ready.enough));
       no_file_in_bounds = (omega (arith, g.less, g.places), few (goal.at.go_on-requires c).Start);
     }
 
@@ -92,7 +92,7 @@ returns-in-GoesOn c =
 
 pub end_file-requires : goal.end_file-requires
 end_file-requires c =
-    let low = (found-going _ (sized (goal.at.end_file-requires c).Start) i.requires.0.sound _ _ (known (goal.at.end_file-requires c).Start c.in-Ends.is)).low in
+    let low = (found-going _ (sized (goal.at.end_file-requires c).Start) c.requires.ready.sound _ _ (known (goal.at.end_file-requires c).Start c.in-Ends.is)).low in
     search rules
 
 pub returns-in-Ends : goal.returns-in-Ends

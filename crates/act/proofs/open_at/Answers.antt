@@ -10,13 +10,13 @@ use Rattle.act.proofs.open_at.Goals.{Start}
 
 sized : (c : Start) → Sized (station_of c.args.head c.args.owner.now c.args.slots)
 sized c =
-    record { watched = search (rules, unmap); desks = search (rules, unmap); owner = c.requires.0.owners; slots = search (rules, unmap) }
+    record { watched = search (rules, unmap); desks = search (rules, unmap); owner = c.requires.ready.owners; slots = search (rules, unmap) }
 
 pub write-requires : goal.write-requires
 write-requires c =
-    let S = i.requires.0.sound in
+    let S = c.requires.ready.sound in
     let owners = opened-owners _ _ (sized (goal.at.write-requires c).Start) S c.open_file-after.ensures in
-    let first = opened-first _ _ (sized (goal.at.write-requires c).Start) S c.open_file-after.ensures i.requires.1.1 i.requires.1.2 i.requires.1.3 in
+    let first = opened-first _ _ (sized (goal.at.write-requires c).Start) S c.open_file-after.ensures c.requires.k_bound.1 c.requires.k_bound.2 c.requires.k_bound.3 in
     search rules
 
 pub returns : goal.returns

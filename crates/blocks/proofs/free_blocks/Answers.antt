@@ -8,7 +8,7 @@ pub loop-b-init : goal.loop-b-init
 loop-b-init c = freeing-first _ _ _ 4096 c.requires.1 c.requires.0
 
 pub loop-b-preserved : goal.loop-b-preserved
-loop-b-preserved c = freeing-on c.before.before.before.loop.invariant (omega arith) c.kept.ensures
+loop-b-preserved c = freeing-on c.loop-b.invariant (omega arith) c.kept.ensures
 
 pub returns : goal.returns
 returns c = freeing-all c.loop-b.invariant (omega arith)

@@ -11,10 +11,10 @@ pub returns-then-left-eq0 : goal.returns-then-left-eq0
 returns-then-left-eq0 c = moving-none c.loop-b.invariant (omega arith)
 
 pub loop-b-preserved-then-o-from : goal.loop-b-preserved-then-o-from
-loop-b-preserved-then-o-from c = moving-on c.before.before.before.before.loop.invariant (omega arith) (omega arith) (omega arith)
+loop-b-preserved-then-o-from c = moving-on c.loop-b.invariant (omega arith) (omega arith) (omega arith)
 
 pub loop-b-preserved : goal.loop-b-preserved
-loop-b-preserved c = moving-past c.before.before.before.before.loop.invariant (omega arith) c.if-o-from.false
+loop-b-preserved c = moving-past c.loop-b.invariant (omega arith) c.if-o-from.false
 
 pub returns : goal.returns
 returns c = moving-all c.loop-b.invariant (omega arith)

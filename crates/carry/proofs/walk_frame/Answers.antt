@@ -21,7 +21,7 @@ station i = station_of i.args.head i.args.owner.now i.args.slots
 
 sized : (c : Start) → Sized (station c)
 sized c =
-    record { watched = search (rules, unmap); desks = search (rules, unmap); owner = c.requires.0.owners; slots = search (rules, unmap) }
+    record { watched = search (rules, unmap); desks = search (rules, unmap); owner = c.requires.lent.owners; slots = search (rules, unmap) }
 
 -- where the code begins, from where it is known how the frame does
 abbrev start : After-begin-opening → Start
@@ -45,7 +45,7 @@ onwards k = begins (begun k) k.in-Carries.is
 
 pub begin-opening-requires : goal.begin-opening-requires
 begin-opening-requires c =
-    beginning i.requires.0 i.requires.1
+    beginning c.requires.lent c.requires.desks_sound
 
 pub walk_rest-requires : goal.walk_rest-requires
 walk_rest-requires c =
@@ -91,12 +91,12 @@ slice_bounds-walk-end c =
 pub walk-w-requires : goal.walk-w-requires
 walk-w-requires c =
     let i = start (begun (goal.at.walk-w-requires c).In-Carries-2) in
-    onward-going i.pre.0 i.pre.1 (onwards (goal.at.walk-w-requires c).In-Carries-2) c.before.before.before.before.before.if1.false
+    onward-going i.pre.0 i.pre.1 (onwards (goal.at.walk-w-requires c).In-Carries-2) c.if-lacked-gt-ZONE.false
 
 pub walk_rest-requires-in-Carries : goal.walk_rest-requires-in-Carries
 walk_rest-requires-in-Carries c =
     let i = start (begun (goal.at.walk_rest-requires-in-Carries c).In-Carries-2) in
-    let l = w.before.before.before.before.before.before.if1.false in
+    let l = c.if-lacked-gt-ZONE.false in
     let O = onwards (goal.at.walk_rest-requires-in-Carries c).In-Carries-2 in
     (onward-lent i.pre.0 i.pre.1 O l c.walk-w.ensures (sized i), (l, onward-few i.pre.0 i.pre.1 O l c.walk-w.ensures))
 
@@ -113,4 +113,4 @@ shape_of-list-in-Carries c =
 pub returns-in-Carries : goal.returns-in-Carries
 returns-in-Carries c =
     let i = start (begun (goal.at.returns-in-Carries c).In-Carries-2) in
-    onward-tells i.pre.0 i.pre.1 (onwards (goal.at.returns-in-Carries c).In-Carries-2) w.before.before.before.before.before.before.if1.false c.walk-w.ensures c.walk_rest-in-Carries.ensures
+    onward-tells i.pre.0 i.pre.1 (onwards (goal.at.returns-in-Carries c).In-Carries-2) c.if-lacked-gt-ZONE.false c.walk-w.ensures c.walk_rest-in-Carries.ensures

@@ -10,8 +10,8 @@ use Rattle.drive.proofs.carry_out.Goals as goal
 
 pub returns-then-letter-eq83 : goal.returns-then-letter-eq83
 returns-then-letter-eq83 c =
-    let a = c.before.before.before.before.before.before.before.before.before.before.before.before.before.args in
-    let law = by-s a.x a.payload.now (memory a.w a.desks.now a.store.now) c.before.before.before.before.before.before.before.before.if1.true in
+    let a = c.args in
+    let law = by-s a.x a.payload.now (memory a.w a.desks.now a.store.now) c.if-letter-eq83.true in
     let e = c.set_up.ensures in
     (e.0 ∙ sym law.0, (e.1.0, rw law.1 e.1.1))
 
@@ -26,12 +26,12 @@ returns-then-letter-eq70 c =
     (e.0 ∙ sym law.0, (e.1.0, rw law.1 e.1.1))
 
 pub read_file-requires : goal.read_file-requires
-read_file-requires c = (search rules, search rules, read-limit c.before.before.before.before.before.before.before.before.before.args.x c.before.before.before.before.before.before.before.before.before.requires.1 c.before.before.if3.true)
+read_file-requires c = (search rules, search rules, read-limit c.args.x c.requires.x_value c.if-letter-eq82.true)
 
 pub returns-then-letter-eq82 : goal.returns-then-letter-eq82
 returns-then-letter-eq82 c =
-    let a = c.before.before.before.before.before.before.before.before.before.before.before.before.args in
-    let law = by-r a.x a.payload.now (memory a.w a.desks.now a.store.now) c.before.before.before.before.before.if3.true in
+    let a = c.args in
+    let law = by-r a.x a.payload.now (memory a.w a.desks.now a.store.now) c.if-letter-eq82.true in
     let e = c.read_file.ensures in
     (e.0 a.desks.now a.store.now ∙ sym law.0, (e.1.0, rw law.1 (e.1.1 a.desks.now)))
 
@@ -44,15 +44,15 @@ returns-then-letter-eq76 c =
 
 pub returns-then-letter-eq73 : goal.returns-then-letter-eq73
 returns-then-letter-eq73 c =
-    let a = c.before.before.before.before.before.before.before.before.before.before.before.before.before.before.args in
-    let law = by-i a.x a.payload.now (memory a.w a.desks.now a.store.now) c.before.before.before.before.before.if5.true in
+    let a = c.args in
+    let law = by-i a.x a.payload.now (memory a.w a.desks.now a.store.now) c.if-letter-eq73.true in
     let e = c.tell_file.ensures in
     (e.0 a.desks.now a.store.now ∙ sym law.0, (e.1.0, rw law.1 (e.1.1 a.desks.now)))
 
 pub returns-then-letter-eq72 : goal.returns-then-letter-eq72
 returns-then-letter-eq72 c =
-    let a = c.before.before.before.before.before.before.before.before.before.before.before.before.before.before.before.before.args in
-    let law = by-h a.x a.payload.now (memory a.w a.desks.now a.store.now) c.before.before.before.before.before.before.if6.true in
+    let a = c.args in
+    let law = by-h a.x a.payload.now (memory a.w a.desks.now a.store.now) c.if-letter-eq72.true in
     let e = c.show_lent.ensures in
     (e.0 a.desks.now a.store.now ∙ sym law.0, (e.1.0, rw law.1 e.1.1))
 

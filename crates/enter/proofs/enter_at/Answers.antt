@@ -23,7 +23,7 @@ sized c = is-size (ready (goal.at.After-size_with-size c).After-counts_with-coun
 
 pub counts_with-counts-requires : goal.counts_with-counts-requires
 counts_with-counts-requires c =
-    files-ready start.before.requires.0 (λ i. (start.slice-known.given i).fits) start.before.args.e start.before.requires.2 _ (sub-zero _)
+    files-ready c.requires.0 (λ i. (c.type_inv.buffer i).fits) c.args.e c.requires.2 _ (sub-zero _)
 
 pub size_with-size-requires : goal.size_with-size-requires
 size_with-size-requires c = (few-at (start c).before.requires.0 (λ i. ((start c).slice-known.given i).fits)).1

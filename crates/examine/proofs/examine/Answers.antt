@@ -19,9 +19,9 @@ returns-then-not-marked c =
 
 pub returns : goal.returns
 returns c =
-    let size = test.before.before.if1.false in
-    let framed = is_framed _ size (sym test.before.marked.ensures ∙ not-false _ test.if2.false) in
-    let plain = mixing.mix.ensures ∙ coded _ size in record {
+    let size = c.if-frame-ne-SIZE.false in
+    let framed = is_framed _ size (sym c.marked.ensures ∙ not-false _ c.if-not-marked.false-raw) in
+    let plain = c.mix.ensures ∙ coded _ size in record {
       value = c.examine_header.ensures ∙ ap (examined_header _ _) (c.read-h.ensures.value ∙ ap frame_of plain) ∙ sym (of-header _ _ _ framed);
       plain_after = plain ∙ sym (plain-framed _ _ framed);
     }

@@ -34,8 +34,7 @@ module _ (s : Station) (store : List ℕ) (k : ℕ) where
 
 pub copy_out-requires : goal.copy_out-requires
 copy_out-requires c =
-    let start = c.before.before.before.before.before in
-    let s = start.args.t1 in
+    let s = c.args.t1 in
     let z : Sized s =
     record {
       watched = search (rules, unmap);
@@ -43,10 +42,10 @@ copy_out-requires c =
       owner = search rules;
       slots = search (rules, unmap);
     } in
-    let few = sound-store s start.requires.0.1 in
-    let room = file-room z start.requires.0.1 start.requires.1.0 start.requires.1.1 in
+    let few = sound-store s c.requires.store_value.1 in
+    let room = file-room z c.requires.store_value.1 c.requires.k_bound.0 c.requires.k_bound.1 in
     record {
-      n_in_bounds = (omega (arith, z.owner), fits-store s.blocks start.args.store.now start.requires.0.0);
+      n_in_bounds = (omega (arith, z.owner), fits-store s.blocks c.args.store.now c.requires.store_value.0);
       buffer_bound = rw add-one (omega arith);
     }
 

@@ -4,6 +4,5 @@ use Rattle.grow.proofs.grow_images.Goals as goal
 
 pub returns : goal.returns
 returns c =
-    let start = w.before.before.before in
-    rw (image-part start.args.image start.args.more w.write-image.new.0 start.requires.0 w.write-image.ensures)
+    rw (image-part c.args.image c.args.more c.write_image.new.0 c.requires.0 c.write_image.ensures)
     at c.grow_section.ensures

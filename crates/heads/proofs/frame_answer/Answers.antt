@@ -8,6 +8,5 @@ pub returns : goal.returns
 unfolding frame_text
 returns c = (
   search rules,
-  let at-with-three = (goal.at.returns c).After-with_three-third in
-      behind (behind at-with-three.with-three.ensures.1 c.number-end.ensures.1) c.pointer_answer.ensures.1,
+  behind (behind c.with_three-third.ensures.1 c.number-end.ensures.1) c.pointer_answer.ensures.1,
 )

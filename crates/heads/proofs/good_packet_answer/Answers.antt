@@ -8,8 +8,6 @@ pub returns : goal.returns
 unfolding packet_text
 returns c = (
   search rules,
-  let at-kind = (goal.at.returns c).After-kind in
-      let at-with-number = at-kind.before.before.before in
-      rw (at-kind.kind.ensures, c.size.ensures) at
-      (behind (behind at-with-number.with_number.ensures.1 c.kind_answer-second.ensures.1) c.numbers.ensures.1),
+  rw (c.kind.ensures, c.size.ensures) at
+      (behind (behind c.with_number-first.ensures.1 c.kind_answer-second.ensures.1) c.numbers.ensures.1),
 )

@@ -3,4 +3,4 @@ use Rattle.text.proofs.Following.{behind}
 use Rattle.hunt.proofs.end.Goals as goal
 
 pub returns : goal.returns
-returns c = (behind c.before.before.before.before.before.before.before.before.before.with-three.ensures.1 c.before.before.before.before.before.line-end.ensures.1).holds
+returns c = (behind c.with_three-third.ensures.1 c.line_end-last.ensures.1).holds

@@ -24,7 +24,7 @@ moved : (c : After-write_all)
     × ((turn (called c)).loop.at + (called c).hunt.result.taken ≤ length (turn (called c)).before.before.before.args.portion.now)
 moved c =
     let d = called c in
-    moves (turn d).loop.inv.0 d.hunt.result _ d.hunt.ensures (turn d).loop.inv.2 (not-false _ c.before.before.before.if1.false)
+    moves (turn d).loop.inv.0 d.hunt.result _ d.hunt.ensures (turn d).loop.inv.2 (not-false _ c.if-not-r.false)
 
 pub loop-r-init : goal.loop-r-init
 loop-r-init c = (goes _ _ _, refl, search rules)
@@ -46,7 +46,7 @@ loop-r-smaller c = omega (arith, moved (goal.at.loop-r-smaller c).After-write_al
 
 pub loop-r-preserved : goal.loop-r-preserved
 loop-r-preserved c = (
-  goes_on (turn (called (goal.at.loop-r-preserved c).After-write_all)).loop.inv.0 (called (goal.at.loop-r-preserved c).After-write_all).hunt.result _ (called (goal.at.loop-r-preserved c).After-write_all).hunt.ensures (turn (called (goal.at.loop-r-preserved c).After-write_all)).loop.inv.2 (not-false _ c.before.before.before.if1.false) _ (omega arith),
+  goes_on (turn (called (goal.at.loop-r-preserved c).After-write_all)).loop.inv.0 (called (goal.at.loop-r-preserved c).After-write_all).hunt.result _ (called (goal.at.loop-r-preserved c).After-write_all).hunt.ensures (turn (called (goal.at.loop-r-preserved c).After-write_all)).loop.inv.2 (not-false _ c.if-not-r.false) _ (omega arith),
   search rules,
   search rules,
 )

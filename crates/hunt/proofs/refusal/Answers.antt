@@ -3,4 +3,4 @@ use Rattle.text.proofs.Following.{behind}
 use Rattle.hunt.proofs.refusal.Goals as goal
 
 pub returns : goal.returns
-returns c = (behind c.with_number-first.ensures.1 c.before.before.before.before.before.word.ensures).holds
+returns c = (behind c.with_number-first.ensures.1 c.word-last.ensures).holds

@@ -27,10 +27,10 @@ fits c i = search rules
 
 -- from the search back to the start
 abbrev start : After-seek-s → Start
-start c = c.before.before.before.before.before.before.before.before.before.before.before
+start c = (goal.at.After-seek-s c).Start
 
 octet : (c : After-seek-s) (i : ℕ) → get_or (start c).args.portion.now i 0 < 256
-octet c i = (c.before.before.before.before.before.before.before.before.before.before.shared-slice-known.given i).fits
+octet c i = (c.type_inv.portion i).fits
 
 -- the marker was found
 found : (c : In-At)
@@ -45,16 +45,15 @@ found c =
 
 pub slice_bounds-copy-end : goal.slice_bounds-copy-end
 slice_bounds-copy-end c =
-    let a = c.before.before.before.before.before.args in
-    let p = c.before.before.before.before.before.requires in
+    let a = c.args in
+    let p = c.requires in
     sym (length-take-le (3 - a.h.waiting) a.portion.now (omega (arith, p.few, p.enough)))
 
 pub copy-requires : goal.copy-requires
 copy-requires c =
-    let begun = c.before.before.before.before.before.before in
-    let a = begun.args in
-    let z = size begun in
-    omega (arith, begun.requires.few, length-take-le (3 - a.h.waiting) a.portion.now (omega (arith, begun.requires.few, begun.requires.enough)))
+    let a = c.args in
+    let z = size (goal.at.copy-requires c).Start in
+    omega (arith, c.requires.few, length-take-le (3 - a.h.waiting) a.portion.now (omega (arith, c.requires.few, c.requires.enough)))
 
 pub fill-requires : goal.fill-requires
 fill-requires c = rw c.spread-first.ensures (found (goal.at.fill-requires c).In-At).settled

@@ -21,12 +21,12 @@ returns-then-answer-ne0 c = (omega arith, rw (ne_eqb _ 0 c.if-answer-ne0.true) (
 
 pub returns-then-complete : goal.returns-then-complete
 returns-then-complete c =
-    let a = c.before.before.before.before.before.before.before.before.args in
-    told a.answer a.complete c.before.before.before.before.before.before.if1.false
+    let a = c.args in
+    told a.answer a.complete c.if-answer-ne0.false
     (rw c.if-complete.true c.word.ensures)
 
 pub returns : goal.returns
 returns c =
-    let a = c.before.before.before.before.before.before.before.before.args in
-    told a.answer a.complete c.before.before.before.before.before.before.if1.false
+    let a = c.args in
+    told a.answer a.complete c.if-answer-ne0.false
     (rw c.if-complete.false c.word-2.ensures)

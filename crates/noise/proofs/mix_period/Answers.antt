@@ -13,7 +13,7 @@ loop-j-init c = (omega arith, refl, copy-none _ _ _ _ refl)
 
 pub loop-j-preserved : goal.loop-j-preserved
 loop-j-preserved c =
-    (omega arith, simp length-set b.loop.invariant.1, period-more _ _ _ (omega arith) (omega arith) _ _ _ (omega arith) b.loop.invariant.2)
+    (omega arith, simp length-set c.loop-j.invariant.1, period-more _ _ _ (omega arith) (omega arith) _ _ _ (omega arith) c.loop-j.invariant.2)
 
 pub returns : goal.returns
 returns c = period-all _ _ _ (omega arith) (omega arith) _ _ _ (omega arith) c.loop-j.invariant.2

@@ -8,12 +8,8 @@ pub returns : goal.returns
 unfolding fields_text
 returns c = (
   search rules,
-  let at-navigation = (goal.at.returns c).After-navigation-third in
-      let at-image = at-navigation.before.before.before.before in
-      let at-primary = at-image.before.before.before.before in
-      let at-with-number = at-primary.before.before.before.before in
-      let first = behind at-with-number.with_number.ensures.1 at-primary.primary.ensures.1 in
-      let second = behind first at-image.image.ensures.1 in
-      let third = behind second at-navigation.navigation.ensures.1 in
+  let first = behind c.with_number-begun.ensures.1 c.primary-first.ensures.1 in
+      let second = behind first c.image-second.ensures.1 in
+      let third = behind second c.navigation-third.ensures.1 in
       behind (behind third c.time-fourth.ensures.1) c.segment.ensures.1,
 )

@@ -7,11 +7,10 @@ pub returns-in-Refused : goal.returns-in-Refused
 unfolding header_text
 returns-in-Refused c = (
   search rules,
-  rw (← at-read-header.read-header.ensures.0, c.in-Refused.is) c.with_number.ensures.1,
+  rw (← c.read_header-a.ensures.value, c.in-Refused.is) c.with_number.ensures.1,
 )
 
 pub returns-in-Read : goal.returns-in-Read
 unfolding header_text
 returns-in-Read c =
-    let at-read-header = (goal.at.returns-in-Read c).Start in
-    rw (← at-read-header.read-header.ensures.0, at-read2.read2.given.1) c.fields.ensures
+    rw (← c.read_header-a.ensures.value, c.in-Read.is) c.fields.ensures

@@ -12,6 +12,5 @@ pub returns : goal.returns
 unfolding image_text
 returns c = (
   search rules,
-  let at_i = (goal.at.returns c).In-There in
-      rw at_i.i.given.1 (behind c.with_three-third.ensures.1 c.number.ensures.1),
+  rw c.in-There.is (behind c.with_three-third.ensures.1 c.number.ensures.1),
 )

@@ -13,13 +13,10 @@ pub returns : goal.returns
 unfolding navigation_text
 returns c = (
   search rules,
-  let at-struct-told = (goal.at.returns c).After-named-first in
-      let at_named = at-struct-told.before.before.before.before in
-      let at_n = at_named.before.before.before in
-      let fits = at-struct-told.struct_told.given in
-      let first = behind at_named.named.ensures.1 c.signed_pair-third.ensures.1 in
+  let fits = c.type_inv.x in
+      let first = behind c.named-first.ensures.1 c.signed_pair-third.ensures.1 in
       let pairs =
       rw (same-field _ fits.0.1, same-field _ fits.1.0.1, same-field _ fits.1.1.0.1, same-field _ fits.1.1.1.0.1)
       at (behind first c.signed_pair.ensures.1) in
-      rw at_n.n.given.1 pairs,
+      rw c.in-There.is pairs,
 )

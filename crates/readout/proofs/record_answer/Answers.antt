@@ -10,9 +10,7 @@ pub returns-in-Refused : goal.returns-in-Refused
 unfolding record_text
 returns-in-Refused c = (
   search rules,
-  let at-u16-at = (goal.at.returns-in-Refused c).After-u16_at-n in
-      let start = at-u16-at.before.before.before in
-      rw (← whole-rest start.args.q.now 2, ← at-u16-at.u16-at.ensures, sym at-read-record.read-record.ensures.0 ∙ c.in-Refused.is)
+  rw (← whole-rest c.args.q.now 2, ← c.u16_at-n.ensures, sym c.read_record-a.ensures.value ∙ c.in-Refused.is)
       c.with_number.ensures.1,
 )
 
@@ -20,10 +18,6 @@ pub returns-in-Found : goal.returns-in-Found
 unfolding record_text
 returns-in-Found c = (
   search rules,
-  let at-a2 = (goal.at.returns-in-Found c).In-Found in
-      let at-read-record = at-a2.before.before in
-      let at-u16-at = at-read-record.before.before in
-      let start = at-u16-at.before.before.before in
-      rw (← whole-rest start.args.q.now 2, ← at-u16-at.u16-at.ensures, sym at-read-record.read-record.ensures.0 ∙ at-a2.a2.given.1)
+  rw (← whole-rest c.args.q.now 2, ← c.u16_at-n.ensures, sym c.read_record-a.ensures.value ∙ c.in-Found.is)
       (behind c.with_number-begun.ensures.1 c.numbers.ensures.1),
 )

@@ -8,6 +8,5 @@ pub returns : goal.returns
 unfolding signed_text
 returns c = (
   search rules,
-  let at-fits = (goal.at.returns c).Start in
-      rw (c.magnitude.ensures, to_z-of_z at-fits.ranges.v) at c.signed.ensures.1,
+  rw (c.magnitude.ensures, to_z-of_z c.ranges.v) at c.signed.ensures.1,
 )

@@ -7,6 +7,5 @@ use Rattle.readout.proofs.signed_pair.Goals as goal
 pub returns : goal.returns
 returns c = (
   search rules,
-  let at-fits = (goal.at.returns c).Start in
-      rw (to_z-of_z at-fits.ranges.v, to_z-of_z at-fits.ranges.w) at (behind c.signed-second.ensures.1 c.signed.ensures.1),
+  rw (to_z-of_z c.ranges.v, to_z-of_z c.ranges.w) at (behind c.signed-second.ensures.1 c.signed.ensures.1),
 )

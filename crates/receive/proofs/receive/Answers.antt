@@ -15,12 +15,11 @@ sized c =
 
 pub tell-requires : goal.tell-requires
 tell-requires c =
-    let start = t.before.before.before.before.before.before.before.before.before in
-    (few-told start.args.s (sized start) _ _ _ _ t.take-frame.ensures, search (rules, t.take-frame.auto), search rules)
+    (few-told c.args.s (sized (goal.at.tell-requires c).Start) _ _ _ _ c.take_frame-f.ensures, search (rules, c.take_frame-f.auto), search rules)
 
 pub returns : goal.returns
 returns c =
-    let taken = c.before.before.before.before.before.before.before.before.before.before.before.before.take-frame.ensures in
+    let taken = c.take_frame-f.ensures in
     record {
       went_on = went_on taken;
       out_after = c.tell.ensures ∙ rw (told _ taken);

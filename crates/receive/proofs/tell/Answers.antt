@@ -4,5 +4,5 @@ use Rattle.receive.proofs.tell.Goals as goal
 
 pub returns : goal.returns
 returns c =
-    let numbers = behind c.before.before.before.before.before.before.before.before.before.before.before.before.before.before.before.before.before.word.ensures c.before.before.before.before.before.before.before.before.before.before.before.before.before.numbers.ensures.1 in
-    (behind (behind numbers c.before.before.before.before.before.before.before.before.before.line-end.ensures.1) c.before.before.before.before.before.events.ensures.1).holds
+    let numbers = behind c.word-letter.ensures c.numbers-last.ensures.1 in
+    (behind (behind numbers c.line_end-head.ensures.1) c.events-end.ensures.written).holds

@@ -5,11 +5,11 @@ use Rattle.station.proofs.Frames.{walk-taken}
 use Rattle.reception.proofs.take_accepted.Goals as goal
 
 pub walk_frame-done-requires : goal.walk_frame-done-requires
-walk_frame-done-requires c = c.before.before.before.before.before.before.before.before.before.requires
+walk_frame-done-requires c = c.requires
 
 pub returns : goal.returns
 returns c =
     record {
       desk_bound = search rules;
-      list_after = walk-taken (station_of i.args.t2 i.args.owner.now i.args.slots) c.walk_frame-done.ensures;
+      list_after = walk-taken (station_of c.args.t2 c.args.owner.now c.args.slots) c.walk_frame-done.ensures;
     }

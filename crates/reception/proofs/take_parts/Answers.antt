@@ -18,18 +18,18 @@ sized i =
 
 -- where the frame was looked at
 abbrev start : After-admit-e → Start
-start k = k.before.before.before.before.before.before.before.before.before.before.before
+start k = (goal.at.After-admit-e k).Start
 
 pub returns-in-Refused : goal.returns-in-Refused
 returns-in-Refused c = (search rules, desk-kept _ _ _ _ _ 0 (sym c.in-Refused.is ∙ c.admit-e.ensures.value))
 
 pub take_accepted-requires : goal.take_accepted-requires
 take_accepted-requires c =
-    let good = c.before.before.before.before.before.before.before.e2.given.1 in
-    walk-lent (sized (start (goal.at.take_accepted-requires c).Start)) (admits _ _ _ _ _ k.admit.ensures.0 good) (zone-here _ (k.admit.ensures.1 _ good))
+    let good = c.in-Good.is in
+    walk-lent (sized (start (goal.at.take_accepted-requires c).Start)) (admits _ _ _ _ _ c.admit-e.ensures.value good) (zone-here _ (c.admit-e.ensures.plain_after _ good))
 
 pub returns-in-Good : goal.returns-in-Good
 returns-in-Good c =
-    let good = c.before.before.before.before.before.before.before.before.before.before.before.before.before.before.e2.given.1 in
+    let good = c.in-Good.is in
     let took = c.take_accepted.ensures in
-    (took.0, frame-taken _ _ _ _ _ (sym good ∙ k.admit.ensures.0) (zone-here _ (k.admit.ensures.1 _ good)) took.1)
+    (took.0, frame-taken _ _ _ _ _ (sym good ∙ c.admit-e.ensures.value) (zone-here _ (c.admit-e.ensures.plain_after _ good)) took.1)

@@ -13,7 +13,7 @@ use Rattle.room.proofs.needs.Goals.{After-need-sum}
 
 small : (c : After-need-sum) → c.need-sum.result < 2 ^ 49
 small c =
-    rw c.need-sum.ensures (need-small _ (bits_fit c.args.t1 _ c.loop-k.k a.before.well-formed.0.1.1))
+    rw c.need-sum.ensures (need-small _ (bits_fit c.args.t1 _ c.loop-k.k c.well_formed.0.1.1))
 
 pub loop-k-init : goal.loop-k-init
 loop-k-init c = summing-first _ (search (rules, unmap))

@@ -19,18 +19,17 @@ watched c = search (rules, unmap)
 
 pub slice_bounds-slot_lines-end : goal.slice_bounds-slot_lines-end
 slice_bounds-slot_lines-end c =
-    let few : c.before.least.result ≤ 4096 = rw c.before.least.ensures (min-le_right _ _) in
-    omega (arith, owners c.before.before.before.before.before.before.before.before.before.before.before.before, few)
+    let few : c.least-blocks.result ≤ 4096 = rw c.least-blocks.ensures (min-le_right _ _) in
+    omega (arith, owners (goal.at.slice_bounds-slot_lines-end c).Start, few)
 
 pub returns : goal.returns
 returns c =
-    let start = c.before.before.before.before.before.before.before.before.before.before.before.before.before.before.before.before.before.before.before.before.before.before.before.before.before in
-    let a = start.args in
-    let first = c.before.before.before.before.before.before.before.before.before.before.before.before.before.before.before.before.before.before.before.before.head-line.ensures in
+    let a = c.args in
+    let first = c.head_line-head.ensures in
     let second = c.slot_lines-last.ensures in
     let third = c.channel_lines.ensures in
-    let blocks = c.before.before.before.before.before.before.before.before.before.before.before.before.before.before.least in
+    let blocks = c.least-blocks in
     let few : blocks.result ≤ 4096 = rw blocks.ensures (min-le_right _ _) in
-    let fits : blocks.result - 0 ≤ length a.s.owner = omega (arith, owners start, few) in
+    let fits : blocks.result - 0 ≤ length a.s.owner = omega (arith, owners (goal.at.returns c).Start, few) in
     let cut = length-take-le (blocks.result - 0) a.s.owner fits in
-    (omega (arith, first.0, second.0, third.0, few, cut), shown-whole a.s a.desks.now a.store.now (owners start) (watched start) blocks.ensures c.least-channels.ensures first.1 second.1 third.1)
+    (omega (arith, first.0, second.0, third.0, few, cut), shown-whole a.s a.desks.now a.store.now (owners (goal.at.returns c).Start) (watched (goal.at.returns c).Start) blocks.ensures c.least-channels.ensures first.1 second.1 third.1)

@@ -10,5 +10,5 @@ returns c =
     let sixth = c.numbers-sixth.ensures in
     let blocks = c.block_numbers-last.ensures in
     let last = c.line_end.ensures in
-    let pre = c.before.before.before.before.before.before.before.before.before.before.before.before.before.before.before.before.before.before.before.before.before.before.before.before.before.before.before.before.before.before.requires in
+    let pre = c.requires in
     (omega (arith, begun.ends, third.0, sixth.0, blocks.0, last.0), behind (behind (behind (behind begun third.1) sixth.1) blocks.1) last.1)

@@ -71,20 +71,20 @@ returns-then-not-owners c =
 
 pub slice_bounds-slots_sound-end : goal.slice_bounds-slots_sound-end
 slice_bounds-slots_sound-end c =
-    let few = set-few _ _ _ (granted up.before.set-up-sound.ensures up.if1.false) in
+    let few = set-few _ _ _ (granted c.set_up_sound.ensures c.if-not-set_up_sound.false-raw) in
     search rules
 
 pub returns-then-not-slots_sound : goal.returns-then-not-slots_sound
 returns-then-not-slots_sound c =
-    let named = counted.before.before.before.before.before.numbers.ensures in
-    sym (no_slot _ named (search granted) (search granted) counted.count-owners.ensures.1 (search denied))
+    let named = c.numbers-names.ensures in
+    sym (no_slot _ named (search granted) (search granted) c.count_owners-owners.ensures.counts_value (search denied))
 
 pub desks_hold-requires : goal.desks_hold-requires
 desks_hold-requires c =
-    omega (arith, set-few _ _ _ (granted up.before.set-up-sound.ensures up.if1.false))
+    omega (arith, set-few _ _ _ (granted c.set_up_sound.ensures c.if-not-set_up_sound.false-raw))
 
 pub returns : goal.returns
 returns c =
-    let named = counted.before.before.before.before.before.numbers.ensures in
+    let named = c.numbers-names.ensures in
     c.desks_hold.ensures
-    ∙ sym (desks _ named (search granted) (search granted) counted.count-owners.ensures.1 (search granted))
+    ∙ sym (desks _ named (search granted) (search granted) c.count_owners-owners.ensures.counts_value (search granted))

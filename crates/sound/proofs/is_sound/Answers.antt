@@ -2,4 +2,4 @@
 use Rattle.sound.proofs.is_sound.Goals as goal
 
 pub returns : goal.returns
-returns c = rw (c.are_parts_sound.ensures, c.before.before.before.before.before.head.ensures)
+returns c = rw (c.are_parts_sound.ensures, c.head-head.ensures)

@@ -20,9 +20,9 @@ carry_out-r-requires c =
 
 pub returns : goal.returns
 returns c =
-    let a = c.before.before.before.before.before.before.before.before.before.before.before.before.before.before.before.before.before.before.args in
-    let pre = c.before.before.before.before.before.before.before.before.before.before.before.before.before.before.before.before.before.before.requires in
-    let e = rw (sub-zero a.k) at c.before.before.before.before.before.before.before.before.before.carry-out.ensures.0 in
+    let a = c.args in
+    let pre = c.requires in
+    let e = rw (sub-zero a.k) at c.carry_out-r.ensures.store_after in
     let within = lent-within a.x (take a.k a.payload.now) (memory a.w a.desks.now a.store.now) (pre.0.0, pre.0.1) in
     let desks = ap (λ (o : Memory). o.desks_lent) e in
     let store = ap (λ (o : Memory). o.store_lent) e in

@@ -17,8 +17,5 @@ returns-then-line-eq35 c = rw (ne_eqb _ _ c.if-held-eq0.false, eq-eqb _ _ c.if-l
 pub returns : goal.returns
 unfolding printed
 returns c =
-    let at-answer = (goal.at.returns c).Else-line-eq35 in
-    let at-if2 = at-answer.before.before in
-    let at-if1 = at-if2.before.before in
-    rw (ne_eqb _ _ at-if1.if1.false, ne_eqb _ _ at-if2.if2.false)
-    (behind at-answer.answer.ensures.1 at-line-end.line-end.ensures.1).holds
+    rw (ne_eqb _ _ c.if-held-eq0.false, ne_eqb _ _ c.if-line-eq35.false)
+    (behind c.answer-last.ensures.1 c.line_end-end.ensures.1).holds

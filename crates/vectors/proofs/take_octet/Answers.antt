@@ -5,7 +5,7 @@ use Rattle.vectors.proofs.take_octet.Goals as goal
 
 pub returns-then-x-eq10 : goal.returns-then-x-eq10
 unfolding came
-returns-then-x-eq10 c = rw (eq-eqb _ _ c.before.before.before.before.before.if1.true, c.end_line.ensures)
+returns-then-x-eq10 c = rw (eq-eqb _ _ c.if-x-eq10.true, c.end_line.ensures)
 
 pub returns : goal.returns
 unfolding came

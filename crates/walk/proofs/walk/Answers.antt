@@ -41,7 +41,7 @@ here : (z : After-size)
 here z = taken (walking z) z.next_at-next.ensures z.in-Take.is z.size.ensures
 
 pub loop-bad-init : goal.loop-bad-init
-loop-bad-init c = begins _ _ _ _ _ _ _ (sized (goal.at.loop-bad-init c).Start) c.before.before.before.requires
+loop-bad-init c = begins _ _ _ _ _ _ _ (sized (goal.at.loop-bad-init c).Start) c.requires
 
 pub next_at-next-requires : goal.next_at-next-requires
 next_at-next-requires c = omega (arith, c.loop-bad.invariant.going.within)

@@ -9,7 +9,7 @@ start w = (goal.at.After-walk-w w).Start
 
 pub walk-w-requires : goal.walk-w-requires
 walk-w-requires c =
-    going i.requires.0 i.requires.1.0 i.requires.1.1
+    going c.requires.lent c.requires.from_bound.0 c.requires.from_bound.1
 
 pub settle-left-requires : goal.settle-left-requires
 settle-left-requires c =

@@ -5,10 +5,10 @@ use Rattle.chase.proofs.calls.hunt.Goals as goal
 
 pub returns : goal.returns
 returns c =
-    let a = c.before.before.before.before.before.before.before.before.before.before.before.before.before.before.before.before.args in
-    let e = c.before.before.before.before.before.before.before.before.before.before.hunt.ensures in
+    let a = c.args in
+    let e = c.hunt-r.ensures in
     let line = c.check_line-end.ensures in
     record {
       buffer_after = hunt-done a.x a.h _ _ e;
-      end_bound = (line.0, hunt-told a.x a.h _ _ e line.1 (omega arith) (omega arith) c.before.before.before.before.before.before.as_number.ensures);
+      end_bound = (line.0, hunt-told a.x a.h _ _ e line.1 (omega arith) (omega arith) c.as_number-found.ensures);
     }

@@ -12,12 +12,12 @@ returns-then-n-eq0 c = (omega arith, nothing-told _ c.args.s c.if-n-eq0.true)
 
 pub slice_bounds-spaced_all-end : goal.slice_bounds-spaced_all-end
 slice_bounds-spaced_all-end c =
-    let size : length c.before.before.before.before.before.before.before.before.before.args.s.numbers ≡ 6 = search rules in
+    let size : length c.args.s.numbers ≡ 6 = search rules in
     omega (arith, size)
 
 pub returns : goal.returns
 returns c =
-    let a = c.before.before.before.before.before.before.before.before.before.before.before.before.before.before.before.before.before.before.args in
+    let a = c.args in
     let size : length a.s.numbers ≡ 6 = search rules in
-    let line = behind (behind c.before.before.before.before.before.before.before.before.before.before.before.before.word2.ensures c.spaced_all-last.ensures.1) c.line_end.ensures.1 in
-    (search rules, said-told _ a.s c.before.before.before.before.before.before.before.before.before.before.before.before.before.before.before.before.if1.false size line)
+    let line = behind (behind c.word-first.ensures c.spaced_all-last.ensures.1) c.line_end.ensures.1 in
+    (search rules, said-told _ a.s c.if-n-eq0.false size line)

@@ -14,4 +14,4 @@ returns-then-letter-eq69 c =
 
 pub returns : goal.returns
 returns c =
-    by-others c.before.before.before.before.before.before.before.before.before.before.args.x _ _ c.before.before.before.before.before.before.before.if1.false c.before.before.before.before.before.before.if2.false c.set-g.ensures c.answer-s.ensures
+    by-others c.args.x _ _ c.if-letter-eq66.false c.if-letter-eq69.false c.set-g.ensures c.answer-s.ensures

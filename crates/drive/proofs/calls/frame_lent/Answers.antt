@@ -15,15 +15,13 @@ sized c =
 
 pub frame_lines-end-requires : goal.frame_lines-end-requires
 frame_lines-end-requires c =
-    let start = t.before.before.before.before.before.before.before.before.before in
-    let few = events-listed start.args.s (sized start) _ _ _ _ t.take-frame.ensures in
-    (search (rules, few.1, t.take-frame.auto), omega (arith, few.0))
+    let few = events-listed c.args.s (sized (goal.at.frame_lines-end-requires c).Start) _ _ _ _ c.take_frame-f.ensures in
+    (search (rules, few.1, c.take_frame-f.auto), omega (arith, few.0))
 
 pub returns : goal.returns
 returns c =
-    let start = t.before.before.before.before.before.before.before.before.before in
-    let e = t.take-frame.ensures in
-    let few = events-listed start.args.s (sized start) _ _ _ _ e in
+    let e = c.take_frame-f.ensures in
+    let few = events-listed c.args.s (sized (goal.at.returns c).Start) _ _ _ _ e in
     let line = c.frame_lines-end.ensures in
     record {
       went_on = went_on e;

@@ -11,6 +11,6 @@ unfolding was_let_go
 returns c =
     let a = c.let_file_go-a.ensures in
     let line = c.let_go_line.ensures in record {
-      by_index = (λ desks store. ap (λ (o : LetGo). with_state (memory c.before.before.before.before.before.before.before.args.w desks store) o.station) a);
+      by_index = (λ desks store. ap (λ (o : LetGo). with_state (memory c.args.w desks store) o.station) a);
       end_bound = (omega (arith, line.0), rw a at line.1);
     }

@@ -6,7 +6,7 @@ use Rattle.drive.proofs.calls.read_file.Goals as goal
 
 pub returns : goal.returns
 returns c =
-    let a = c.before.before.before.before.before.before.before.before.before.before.args in
+    let a = c.args in
     let line = c.read_lent.ensures in
     record {
       by_index = (λ desks store. refl);

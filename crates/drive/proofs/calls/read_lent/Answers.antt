@@ -6,4 +6,4 @@ use Rattle.drive.proofs.calls.read_lent.Goals as goal
 pub returns : goal.returns
 returns c =
     let line = c.read_line.ensures in
-    (search rules, read_told c.before.before.before.before.before.before.before.read-file.ensures line.1)
+    (search rules, read_told c.read_file-answer.ensures line.1)

@@ -5,7 +5,7 @@ use Rattle.drive.proofs.calls.show_lent.Goals as goal
 
 pub returns : goal.returns
 returns c =
-    let w = c.before.before.before.before.before.before.before.before.before.args.w in
+    let w = c.args.w in
     record {
       by_index = (λ desks store. refl);
       end_bound = rw (sub-zero w.desks, sub-zero w.store) at c.show.ensures;

@@ -6,7 +6,7 @@ use Rattle.drive.proofs.calls.take_frame.Goals as goal
 
 pub returns : goal.returns
 returns c =
-    let a = c.before.before.before.before.before.before.before.before.before.before.before.before.before.before.before.before.before.before.args in
+    let a = c.args in
     let f = c.frame_lent-f.ensures in
     let few : a.x.b ≤ 1200 = omega arith in
     record {

@@ -5,7 +5,7 @@ use Rattle.drive.proofs.calls.tell_file.Goals as goal
 
 pub returns : goal.returns
 returns c =
-    let a = c.before.before.before.before.before.before.before.before.args in
+    let a = c.args in
     let line = c.before.before.told_Line.ensures in
     let told = c.tell_file-told.ensures in
     record {

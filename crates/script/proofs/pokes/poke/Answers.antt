@@ -6,7 +6,7 @@ use Rattle.script.proofs.pokes.poke.Goals as goal
 
 pub returns-then-letter-eq77 : goal.returns-then-letter-eq77
 unfolding poked_by
-returns-then-letter-eq77 c = (rw (eq-eqb _ _ c.before.before.before.if1.true) c.lend.ensures.store_value, c.lend.ensures.end_value)
+returns-then-letter-eq77 c = (rw (eq-eqb _ _ c.if-letter-eq77.true) c.lend.ensures.store_value, c.lend.ensures.end_value)
 
 pub returns-then-letter-eq80 : goal.returns-then-letter-eq80
 unfolding poked_by octet_poked

@@ -15,21 +15,17 @@ returns-then-held-line c = rw (lt-ltb _ _ c.if-held-line.true) c.refusal.ensures
 
 pub slice_bounds-answer_to-end : goal.slice_bounds-answer_to-end
 slice_bounds-answer_to-end c =
-    let few = subst (λ (d : Decoded). count_of d ≤ 1024) at-d.d.given.1 at-d.before.before.before.question.ensures.0 in
+    let few = subst (λ (d : Decoded). count_of d ≤ 1024) c.in-Octets.is c.question-d.ensures.result_bound in
     omega (arith, few)
 
 pub returns-in-Octets : goal.returns-in-Octets
 unfolding answer_of
 returns-in-Octets c =
-    let at-question = (goal.at.returns-in-Octets c).Else-held-line in
-    let at-if1 = at-question.before.before.before in
-    rw (le-ltb _ _ at-if1.if1.false, ← (rw (at-d.d.given.1, sub-zero) at at-question.question.ensures.1))
+    rw (le-ltb _ _ c.if-held-line.false, ← (rw (c.in-Octets.is, sub-zero) at c.question-d.ensures.asked_after))
     (rw sub-zero at c.answer_to.ensures)
 
 pub returns-in-Nothing : goal.returns-in-Nothing
 unfolding answer_of
 returns-in-Nothing c =
-    let at-question = (goal.at.returns-in-Nothing c).After-question-d in
-    let at-if1 = at-question.before.before.before in
-    rw (le-ltb _ _ at-if1.if1.false, ← (rw (c.in-Nothing.is, sub-zero) at at-question.question.ensures.1))
+    rw (le-ltb _ _ c.if-held-line.false, ← (rw (c.in-Nothing.is, sub-zero) at c.question-d.ensures.asked_after))
     c.refusal-in-Nothing.ensures

@@ -11,32 +11,22 @@ returns-then-q-ne6 c = rw (ne_eqb _ _ c.if-q-ne6.true) c.refusal.ensures
 
 pub returns-in_default : goal.returns-in_default
 returns-in_default c =
-    let at-checked = (goal.at.returns-in_default c).After-checked-checked_last in
-    let at-u24-at = at-checked.before in
-    absurd (no-bad-counter _ at-u24-at.u24-at.ensures.1 (sym at-checked.checked.ensures ∙ c.in_default.is))
+    absurd (no-bad-counter _ c.u24_at.ensures.1 (sym c.checked-checked_last.ensures ∙ c.in_default.is))
 
 pub returns-in_default-checked_next : goal.returns-in_default-checked_next
 returns-in_default-checked_next c =
-    let at-checked2 = (goal.at.returns-in_default-checked_next c).After-checked-checked_next in
-    let at-u24-at2 = at-checked2.before in
-    absurd (no-bad-counter _ at-u24-at2.u24-at2.ensures.1 (sym at-checked2.checked2.ensures ∙ c.in_default-checked_next.is))
+    absurd (no-bad-counter _ c.u24_at-2.ensures.1 (sym c.checked-checked_next.ensures ∙ c.in_default-checked_next.is))
 
 pub returns : goal.returns
 unfolding counter_text
 returns c = (
   search rules,
-  let at-checked2 = (goal.at.returns c).In-Good-checked_next-1 in
-      let at-u24-at2 = at-checked2.before in
-      let at-checked-last = at-u24-at2.before.before in
-      let at-checked = at-checked-last.before.before in
-      let at-u24-at = at-checked.before in
-      let at-if1 = at-u24-at.before in
-      let last = good-counter _ at-u24-at.u24-at.ensures.1 (sym at-checked.checked.ensures ∙ at-checked-last.checked-last.given.1) in
-      let next = good-counter _ at-u24-at2.u24-at2.ensures.1 (sym at-checked2.checked2.ensures ∙ c.in-Good-checked_next.is) in
+  let last = good-counter _ c.u24_at.ensures.1 (sym c.checked-checked_last.ensures ∙ c.in-Good.is) in
+      let next = good-counter _ c.u24_at-2.ensures.1 (sym c.checked-checked_next.ensures ∙ c.in-Good-checked_next.is) in
       rw (
-        eq-eqb _ _ at-if1.if1.false,
-        ← at-u24-at.u24-at.ensures.0,
-        ← at-u24-at2.u24-at2.ensures.0,
+        eq-eqb _ _ c.if-q-ne6.false,
+        ← c.u24_at.ensures.0,
+        ← c.u24_at-2.ensures.0,
         ← last,
         ← next,
         ← c.follows.ensures,

@@ -8,6 +8,5 @@ pub returns : goal.returns
 unfolding crc_text
 returns c = (
   search rules,
-  let at-word = (goal.at.returns c).After-word-letter in
-      rw c.crc.ensures at (behind at-word.word.ensures c.hex.ensures.1),
+  rw c.crc.ensures at (behind c.word-letter.ensures c.hex.ensures.1),
 )

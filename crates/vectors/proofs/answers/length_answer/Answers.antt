@@ -13,10 +13,7 @@ pub returns-then-not-good_length : goal.returns-then-not-good_length
 unfolding length_text
 returns-then-not-good_length c = (
   search rules,
-  let at-good-length = (goal.at.returns-then-not-good_length c).Then-not-good_length in
-      let at-u64-at = at-good-length.before in
-      let at-if1 = at-u64-at.before in
-      rw (eq-eqb _ _ at-if1.if1.false, ← at-u64-at.u64-at.ensures, denied at-good-length.good_length.ensures c.if-not-good_length.true-raw)
+  rw (eq-eqb _ _ c.if-q-ne8.false, ← c.u64_at-bits.ensures, denied c.good_length.ensures c.if-not-good_length.true-raw)
       c.word.ensures,
 )
 
@@ -24,12 +21,7 @@ pub returns : goal.returns
 unfolding length_text
 returns c = (
   search rules,
-  let at-need = (goal.at.returns c).After-need in
-      let at-if2 = at-need.before.before in
-      let at-good-length = at-if2.before in
-      let at-u64-at = at-good-length.before in
-      let at-if1 = at-u64-at.before in
-      rw (eq-eqb _ _ at-if1.if1.false, ← at-u64-at.u64-at.ensures, granted at-good-length.good_length.ensures at-if2.if2.false)
-      (rw (at-need.need.ensures, c.rest.ensures) at
+  rw (eq-eqb _ _ c.if-q-ne8.false, ← c.u64_at-bits.ensures, granted c.good_length.ensures c.if-not-good_length.false-raw)
+      (rw (c.need.ensures, c.rest.ensures) at
       (behind c.with_number-second.ensures.1 c.number.ensures.1)),
 )
