@@ -139,7 +139,7 @@ class Turn:
             return None
         rest = segs[1:]
         for var, known in v["typed"][j]:
-            if norm(known) == norm(own[0]):
+            if norm(known) == norm(own[0]) and v["places"][j][3] is None:
                 return ["type_inv", var] + (rest[1:] if rest[:1] == ["given"] else rest)
         swap = dict((a, b) for a, b in v["places"][j][4])
         if rest and rest[0] in swap:

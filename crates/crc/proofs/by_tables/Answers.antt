@@ -48,10 +48,10 @@ bounds-three-x c =
     xor_lt 8 (turn.c / 0x100) (octet-at (goal.at.bounds-three-x c).In-loop-i turn.i) (omega arith) (octet-below (goal.at.bounds-three-x c).In-loop-i turn.i)
 
 pub overflow_cast-c : goal.overflow_cast-c
-overflow_cast-c c = omega (arith, bounds-three-x (goal.at.overflow_cast-c c).In-loop-i)
+overflow_cast-c c = omega (arith, bounds-three-x c)
 
 pub offset_bounds-three-x : goal.offset_bounds-three-x
-offset_bounds-three-x c = omega (arith, bounds-three-x (goal.at.offset_bounds-three-x c).In-loop-i)
+offset_bounds-three-x c = omega (arith, bounds-three-x c)
 
 pub bounds-two-y : goal.bounds-two-y
 bounds-two-y c =
@@ -59,28 +59,28 @@ bounds-two-y c =
     xor_lt 8 (turn.c % 0x100) (octet-at (goal.at.bounds-two-y c).In-loop-i (turn.i + 1)) (omega arith) (octet-below (goal.at.bounds-two-y c).In-loop-i (turn.i + 1))
 
 pub overflow_cast-c-in-loop-i : goal.overflow_cast-c-in-loop-i
-overflow_cast-c-in-loop-i c = omega (arith, bounds-two-y (goal.at.overflow_cast-c-in-loop-i c).In-loop-i)
+overflow_cast-c-in-loop-i c = omega (arith, bounds-two-y c)
 
 pub offset_bounds-two-y : goal.offset_bounds-two-y
-offset_bounds-two-y c = omega (arith, bounds-two-y (goal.at.offset_bounds-two-y c).In-loop-i)
+offset_bounds-two-y c = omega (arith, bounds-two-y c)
 
 pub bounds-one-z : goal.bounds-one-z
 bounds-one-z c = octet-below (goal.at.bounds-one-z c).In-loop-i _
 
 pub overflow_cast-c-in-loop-i-2 : goal.overflow_cast-c-in-loop-i-2
-overflow_cast-c-in-loop-i-2 c = omega (arith, bounds-one-z (goal.at.overflow_cast-c-in-loop-i-2 c).In-loop-i)
+overflow_cast-c-in-loop-i-2 c = omega (arith, bounds-one-z c)
 
 pub offset_bounds-one-z : goal.offset_bounds-one-z
-offset_bounds-one-z c = omega (arith, bounds-one-z (goal.at.offset_bounds-one-z c).In-loop-i)
+offset_bounds-one-z c = omega (arith, bounds-one-z c)
 
 pub bounds-none-w : goal.bounds-none-w
 bounds-none-w c = octet-below (goal.at.bounds-none-w c).In-loop-i _
 
 pub overflow_cast-c-in-loop-i-3 : goal.overflow_cast-c-in-loop-i-3
-overflow_cast-c-in-loop-i-3 c = omega (arith, bounds-none-w (goal.at.overflow_cast-c-in-loop-i-3 c).In-loop-i)
+overflow_cast-c-in-loop-i-3 c = omega (arith, bounds-none-w c)
 
 pub offset_bounds-none-w : goal.offset_bounds-none-w
-offset_bounds-none-w c = omega (arith, bounds-none-w (goal.at.offset_bounds-none-w c).In-loop-i)
+offset_bounds-none-w c = omega (arith, bounds-none-w c)
 
 pub loop-i-preserved : goal.loop-i-preserved
 loop-i-preserved c =

@@ -19,7 +19,7 @@ loop-at-preserved c =
     let called = c.mix_period in
     let inv = c.loop-at.invariant in
     let mixed = frame-more _ _ _ _ inv.1 (omega arith) inv.3 c.table-table.ensures called.ensures in
-    (omega arith, omega arith, called.auto.1.0 ∙ inv.2, mixed)
+    (omega arith, omega arith, called.auto.to ∙ inv.2, mixed)
 
 pub returns : goal.returns
 returns c = frame-all _ _ _ (omega arith) c.loop-at.invariant.3
