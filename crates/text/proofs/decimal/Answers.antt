@@ -7,13 +7,13 @@ use Rattle.text.proofs.decimal.Goals as goal
 
 pub word-requires : goal.word-requires
 word-requires c =
-    let d = c.type_inv.digits in
+    let d = c.decimal-k in
     let v = c.args.v in
     omega (arith, at_most 10 1 20 v d.result (omega arith) (omega arith) (omega arith) d.ensures.1.0, d.ensures.0.1)
 
 pub returns : goal.returns
 returns c =
-    let d = c.type_inv.digits in
+    let d = c.decimal-k in
     let v = c.args.v in
     let w = c.word.ensures in
     let fits : v < 10 ^ 20 = omega arith in (

@@ -6,13 +6,13 @@ use Rattle.text.proofs.hex.Goals as goal
 
 pub word-requires : goal.word-requires
 word-requires c =
-    let h = c.type_inv.digits in
+    let h = c.hex-k in
     let a = c.args in
     omega (arith, exactly a.width a.v h.result (omega arith) (omega arith) (omega arith) h.ensures.1.0, h.ensures.0.1)
 
 pub returns : goal.returns
 returns c =
-    let h = c.type_inv.digits in
+    let h = c.hex-k in
     let a = c.args in
     let w = c.word.ensures in
     let k : h.result ≡ a.width = exactly a.width a.v h.result (omega arith) (omega arith) (omega arith) h.ensures.1.0 in
