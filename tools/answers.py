@@ -207,7 +207,7 @@ def blocks(text):
 
 
 def name_of(block):
-    m = re.match(r"(?:abbrev |unfoldable |pub )*([^\s:]+)", re.sub(r"^--.*\n", "", block, flags=re.M))
+    m = re.match(r"(?:abbrev |unfoldable |pub |record |data )*([^\s:]+)", re.sub(r"^--.*\n", "", block, flags=re.M))
     return m.group(1) if m else None
 
 
@@ -370,18 +370,29 @@ def turn(path, v, crate, dotted, requires):
     if invariants:
         # helpers that an invariant names go along
         body = "\n\n".join(invariants)
-        along = [h for h in helpers if named_in(h, body)]
+        along, asked = [], body
+        while True:
+            more = [h for h in helpers if h not in along and not h.startswith((" ", "module")) and named_in(h, asked)]
+            if not more:
+                break
+            along += more
+            asked = "\n".join([asked] + more)
+        along = [h for h in helpers if h in along]
         for h in along:
             helpers.remove(h)
         shared = []
         for h in along:
-            h2 = re.sub(r"^((?:--.*\n)*)(abbrev |unfoldable )?(?:pub )?(\S+ :)", r"\1\2pub \3", h)
-            shared.append(h2)
+            lines_ = h.split("\n")
+            k = next(n for n, l in enumerate(lines_) if not l.startswith("--"))
+            l = lines_[k]
+            if not l.startswith("pub ") and " pub " not in l.split(":")[0]:
+                lines_[k] = ("pub " + l) if l.startswith(("record ", "data ")) else l.replace("abbrev ", "abbrev pub ", 1) if l.startswith("abbrev ") else "unfoldable pub " + l
+            shared.append("\n".join(lines_))
         body = "\n\n".join(shared + invariants)
         lines = comments + needed(body) + [f"use {where}.Given as goal", "", body]
         open(os.path.join(folder, "Invariants.antt"), "w", encoding="utf-8").write("\n".join(lines) + "\n")
         wrote.append("Invariants")
-        names = [re.search(r"pub (\S+) :", s).group(1) for s in shared if re.search(r"pub (\S+) :", s)]
+        names = [name_of(s) for s in shared if name_of(s)]
         if names:
             uses.append(f"use {where}.Invariants.{{{', '.join(names)}}}")
     if answers:

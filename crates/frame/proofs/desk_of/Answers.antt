@@ -14,11 +14,8 @@ use Rattle.frame.specs.declared.Channel.{Channel}
 use Rattle.frame.specs.declared.Watch.TheVariants.{Desk, NotWatched}
 use Rattle.frame.specs.Kinds.{desk_of}
 use Rattle.frame.proofs.Desks.{at-desk, no-desk}
-use Rattle.frame.proofs.desk_of.Invariants.{Unnamed}
+use Rattle.frame.proofs.desk_of.Invariants.{past, Unnamed}
 use Rattle.frame.proofs.desk_of.Goals as goal
-
-abbrev past : Channel
-past = record { 0 = 0 }
 
 -- among the first n of eight
 module _ (channel : Channel) (i n : ℕ) (ws : List Channel) (eight : length ws ≡ 8) (few : n ≤ 8) (before : Unnamed ws channel i) where

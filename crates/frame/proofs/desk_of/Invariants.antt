@@ -8,7 +8,10 @@ use lib.ListN.{get_or}
 use Rattle.frame.specs.declared.Channel.{Channel}
 use Rattle.frame.proofs.desk_of.Given as goal
 
-pub Unnamed : List Channel → Channel → ℕ → Type 0
+abbrev pub past : Channel
+past = record { 0 = 0 }
+
+unfoldable pub Unnamed : List Channel → Channel → ℕ → Type 0
 Unnamed ws c i = (k : ℕ) → k < i → (get_or ws k past).0 ≡ c.0 → ⊥
 
 abbrev pub invariant-loop-i : goal.invariant-loop-i

@@ -26,7 +26,7 @@ returns-in-128 c = rw c.in-128.is
 pub returns-in_default : goal.returns-in_default
 unfolding length_of
 returns-in_default c =
-    let other = c.in_default-own.rest in
+    let other = c.in_default.in_default-own.rest in
     simp (
       ne_eqb _ _ other.0.0.0.0.1,
       ne_eqb _ _ other.0.0.0.1,
