@@ -43,7 +43,7 @@ loop-i-init c = (omega arith, λ k h. absurd (omega arith))
 pub returns-then-w-channel : goal.returns-then-w-channel
 returns-then-w-channel c =
     let a = c.args in
-    sym (named a.channel c.loop-i.i a.n a.t1 (search (rules, unmap)) (omega arith) c.loop-i.invariant.1 (omega arith) c.if-w-channel.true)
+    sym (named a.channel c.loop-i.i a.n a.watched (search (rules, unmap)) (omega arith) c.loop-i.invariant.1 (omega arith) c.if-w-channel.true)
 
 pub loop-i-preserved : goal.loop-i-preserved
 unfolding Unnamed
@@ -52,4 +52,4 @@ loop-i-preserved c = (omega arith, below_more _ _ c.loop-i.invariant.1 c.if-w-ch
 pub returns : goal.returns
 returns c =
     let a = c.args in
-    sym (unnamed a.channel c.loop-i.i a.n a.t1 (search (rules, unmap)) (omega arith) c.loop-i.invariant.1 (omega arith))
+    sym (unnamed a.channel c.loop-i.i a.n a.watched (search (rules, unmap)) (omega arith) c.loop-i.invariant.1 (omega arith))
