@@ -9,7 +9,7 @@ pub word-requires : goal.word-requires
 word-requires c =
     let d = c.decimal-k in
     let v = c.args.v in
-    omega (arith, at_most 10 1 20 v d.result (omega arith) (omega arith) (omega arith) d.ensures.1.0, d.ensures.0.1)
+    omega (arith, at_most 10 1 20 v d.result (omega arith) (omega arith) (omega arith) d.ensures.len, d.ensures.in_bounds)
 
 pub returns : goal.returns
 returns c =
@@ -17,6 +17,6 @@ returns c =
     let v = c.args.v in
     let w = c.word.ensures in
     let fits : v < 10 ^ 20 = omega arith in (
-      omega (arith, at_most 10 1 20 v d.result (omega arith) (omega arith) fits d.ensures.1.0, d.ensures.0.1, w.ends),
-      rw (d.ensures.1.1, decimal-digits d.result v fits d.ensures.1.0) at w,
+      omega (arith, at_most 10 1 20 v d.result (omega arith) (omega arith) fits d.ensures.len, d.ensures.in_bounds, w.ends),
+      rw (d.ensures.digits, decimal-digits d.result v fits d.ensures.len) at w,
     )

@@ -8,12 +8,12 @@ pub word-requires : goal.word-requires
 word-requires c =
     let h = c.hex-k in
     let a = c.args in
-    omega (arith, exactly a.width a.v h.result (omega arith) (omega arith) (omega arith) h.ensures.1.0, h.ensures.0.1)
+    omega (arith, exactly a.width a.v h.result (omega arith) (omega arith) (omega arith) h.ensures.len, h.ensures.in_bounds)
 
 pub returns : goal.returns
 returns c =
     let h = c.hex-k in
     let a = c.args in
     let w = c.word.ensures in
-    let k : h.result ≡ a.width = exactly a.width a.v h.result (omega arith) (omega arith) (omega arith) h.ensures.1.0 in
-    (omega (arith, h.ensures.0.1, w.ends), rw (h.ensures.1.1, k) at w)
+    let k : h.result ≡ a.width = exactly a.width a.v h.result (omega arith) (omega arith) (omega arith) h.ensures.len in
+    (omega (arith, h.ensures.in_bounds, w.ends), rw (h.ensures.digits, k) at w)

@@ -1,5 +1,4 @@
 -- `text::hex_octets` meets its contract. What is written so far, and the digits of the octets that are left, is the whole. Assumes nothing.
-use Prim.Native.Nat.{◌-◌}
 use native.Mathlib.Omega.{arith}
 use borrow.Author.Rules.{rules}
 use lib.ListN.{length-set}
