@@ -1,7 +1,6 @@
 -- `header::find_record` meets its contract. The invariant: the records from here on, at the number that is left, give what was sought.
 -- Assumes nothing.
 use mathlib.Core.Path.{sym}
-use Prim.Native.Nat.{◌-◌}
 use native.Mathlib.Omega.{arith}
 use Rattle.records.specs.Records.{nth}
 use Rattle.records.proofs.Walk.{begin, place-of, ends, found, turn}

@@ -1,6 +1,5 @@
 -- `header::find_type` meets its contract. The invariant: the records from here on give what was sought. Assumes nothing.
 use mathlib.Core.Path.{sym}
-use Prim.Native.Nat.{◌-◌}
 use native.Mathlib.Omega.{arith}
 use Rattle.records.specs.Records.{place_of}
 use Rattle.records.proofs.Walk.{begin, place-of, ends, found, turn}

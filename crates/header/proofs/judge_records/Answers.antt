@@ -1,7 +1,6 @@
 -- `header::judge_records` meets its contract. The invariant: the marks are those of the records before, and the records from here on decide.
 -- Assumes nothing.
 use mathlib.Core.Path.{sym}
-use Prim.Native.Nat.{◌-◌}
 use native.Mathlib.Omega.{arith}
 use Rattle.records.proofs.Walk.{place-of}
 use Rattle.records.proofs.Marking.{judging-begins, judging-ends, judging-refused, judging-on}

@@ -26,15 +26,19 @@ slice_bounds-find_record-end c = omega (arith, (accepted (goal.at.slice_bounds-f
 pub returns-in-Refused : goal.returns-in-Refused
 unfolding read_record
 returns-in-Refused c =
-    record-told _ _ (sym (answered (header_says fixed_types _) _ Refused c.judge-judged.ensures c.in-Refused.is))
+    let start = c.args in
+    let told = record-told start.file.now start.n
+    (sym (answered (header_says fixed_types start.file.now) (nth (records (header_of start.file.now)) start.n) Refused c.judge-judged.ensures c.in-Refused.is)) in
+    record { value = told.0; result_value = told.1 }
 
 pub returns-in-Good : goal.returns-in-Good
 unfolding read_record
 returns-in-Good c =
     let start = c.args in
-    record-told _ _
+    let told = record-told start.file.now start.n
     (c.find_record.ensures ∙ ap (λ (h : List ℕ). nth (records h) start.n) (header-part start.file.now c.u32_at-end.ensures)
     ∙ sym
     (answered (header_says fixed_types start.file.now) (nth (records (header_of start.file.now)) start.n) Refused
     c.judge-judged.ensures
-    c.in-Good.is))
+    c.in-Good.is)) in
+    record { value = told.0; result_value = told.1 }
