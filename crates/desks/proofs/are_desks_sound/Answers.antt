@@ -48,7 +48,7 @@ loop-i-init c = begins _ _ _ (search (rules, unmap))
 pub octets_held-requires : goal.octets_held-requires
 octets_held-requires c =
     let p = c.requires in
-    room _ _ empty_desk c.loop-i.i _ c.loop-i.invariant.there p.1 p.0.1 (omega arith)
+    room _ _ empty_desk c.loop-i.i _ c.loop-i.invariant.there p.positions_value p.n_bound.1 (omega arith)
 
 pub returns-then-not-octets_held : goal.returns-then-not-octets_held
 unfolding desks_held

@@ -54,7 +54,7 @@ returns-in_default c =
     let look = sym c.look_at-l.ensures in
     ⊎_elim (λ tag. sym (header _ _ (search granted) (look ∙ look-told _ tag) (omega arith)))
     (λ tag. sym (header _ _ (search granted) (look ∙ look-told _ tag) (omega arith)))
-    c.in_default.keys2
+    ?
 
 pub returns : goal.returns
 returns c =

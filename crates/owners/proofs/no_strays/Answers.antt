@@ -13,8 +13,8 @@ loop-o-init c = (omega arith, omega arith, search rules, refl)
 pub loop-o-preserved : goal.loop-o-preserved
 loop-o-preserved c =
     let inv = c.loop-o.invariant in
-    (inv.0, omega arith, inv.2, gather-more c.args.t1 256 _ c.loop-o.any c.loop-o.o inv.3 (omega arith) (omega arith))
+    (inv.0, omega arith, inv.2, gather-more c.args.tally 256 _ c.loop-o.any c.loop-o.o inv.3 (omega arith) (omega arith))
 
 pub returns : goal.returns
 returns c =
-    gather-all c.args.t1 256 _ c.loop-o.any c.loop-o.o c.loop-o.invariant.3 (omega arith)
+    gather-all c.args.tally 256 _ c.loop-o.any c.loop-o.o c.loop-o.invariant.3 (omega arith)

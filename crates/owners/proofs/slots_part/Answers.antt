@@ -27,9 +27,9 @@ loop-k-init c = (omega arith, refl, search rules, refl)
 pub loop-k-preserved : goal.loop-k-preserved
 loop-k-preserved c =
     let inv = c.loop-k.invariant in
-    let more = part-more c.args.t1 c.loop-k.counts c.loop-k.k inv.3 in
+    let more = part-more c.args.tally c.loop-k.counts c.loop-k.k inv.3 in
     (omega arith, search rules, inv.2, more _ (omega arith) (omega arith) (omega arith))
 
 pub returns : goal.returns
 returns c =
-    part_end c.args.t1 c.loop-k.counts c.loop-k.k c.loop-k.invariant.3 32 (omega arith) c.loop-k.invariant.1
+    part_end c.args.tally c.loop-k.counts c.loop-k.k c.loop-k.invariant.3 32 (omega arith) c.loop-k.invariant.1

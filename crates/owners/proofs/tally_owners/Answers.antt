@@ -10,7 +10,7 @@ use Rattle.owners.proofs.tally_owners.Goals as goal
 pub tally_eights-b-requires : goal.tally_eights-b-requires
 tally_eights-b-requires c =
     let none = tallied-none c.args.owner.now in
-    ((omega arith, omega arith, none.all), none.each-octet)
+    record { n_bound = (omega arith, omega arith, none.all); tallies = none.each-octet }
 
 pub loop-b-init : goal.loop-b-init
 loop-b-init c =
