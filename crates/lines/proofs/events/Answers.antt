@@ -1,5 +1,4 @@
 -- `lines::events` meets its contract. What is written so far, and the lines of the events that are left, is the whole. Assumes nothing.
-use Prim.Native.Nat.{◌-◌}
 use native.Mathlib.Omega.{arith}
 use borrow.Author.Rules.{rules}
 use Rattle.lines.proofs.Telling.{lining-none, lining-more, lining-all}
@@ -11,7 +10,7 @@ loop-i-init c = lining-none _ _ _ _
 pub loop-i-preserved : goal.loop-i-preserved
 loop-i-preserved c =
     let e = c.event-end in
-    lining-more c.loop-i.invariant (omega arith) e.ensures.0 (search rules) e.ensures.1
+    lining-more c.loop-i.invariant (omega arith) e.ensures.upper_bound (search rules) e.ensures.written
 
 pub returns : goal.returns
 returns c = record {
