@@ -15,8 +15,8 @@ ghost use Rattle.chase.specs.Script.{payload_of};
 ghost use Rattle.chase.specs.Calls.{memory, carried_out};
 ghost use Rattle.chase.specs.Run.{ended, chased, last_line};
 
-use libc::{STDIN_FILENO, STDOUT_FILENO};
 use script::{Command, Next};
+use std::io::{Stdin, Stdout};
 use stream::Hunter;
 
 // The most octets that a script has, those of the buffer, and the room for the longest line.
@@ -42,13 +42,20 @@ fn fetch(script: &[u8], at: usize) -> Next
 }
 
 // One command carried out, and its text printed.
-fn obey(h: Hunter, x: Command, portion: &[u8], buffer: &mut [u8], out: &mut [u8]) -> Hunter
+fn obey(
+    output: Stdout,
+    h: Hunter,
+    x: Command,
+    portion: &[u8],
+    buffer: &mut [u8],
+    out: &mut [u8],
+) -> Hunter
     requires { (length buffer.old ≡ 2048) × (length out.old ≡ 86) × (payload_of x ≡ Octets (length portion.now)) }
     ensures { memory result buffer.new ≡ carried_out x portion.now (memory h buffer.old) }
 {
     let a = calls::carry_out(h, x, portion, buffer, out);
     let last = a.end;
-    io::write_all(STDOUT_FILENO, &out[0..last]);
+    pipes::write_all(output, &out[0..last]);
     let after = a.hunter;
     after
 }
@@ -62,7 +69,7 @@ pub struct Ended {
 }
 
 // The script, command by command.
-fn follow(script: &[u8], buffer: &mut [u8], out: &mut [u8]) -> Ended
+fn follow(output: Stdout, script: &[u8], buffer: &mut [u8], out: &mut [u8]) -> Ended
     requires { (length buffer.old ≡ 2048) × (length out.old ≡ 86) }
     ensures { ended result buffer.new ≡ chased (memory no_hunter buffer.old) script.now }
 {
@@ -88,7 +95,7 @@ fn follow(script: &[u8], buffer: &mut [u8], out: &mut [u8]) -> Ended
             Next::Goes(x, k) => {
                 let from = at + Command::SIZE;
                 let to = from + k;
-                h = obey(h, x, &script[from..to], buffer, out);
+                h = obey(output, h, x, &script[from..to], buffer, out);
                 at = to;
             }
         }
@@ -102,24 +109,24 @@ fn follow(script: &[u8], buffer: &mut [u8], out: &mut [u8]) -> Ended
 }
 
 // A whole script, from a hunter and a buffer that are all zero. Its last line stands at the start of out, up to the place answered.
-fn run(script: &[u8], out: &mut [u8]) -> usize
+fn run(output: Stdout, script: &[u8], out: &mut [u8]) -> usize
     requires { length out.old ≡ 86 }
     ensures { (result ≤ 86) × (take result out.new ≡ last_line script.now) }
 {
     let mut buffer = [0u8; BUFFER];
-    let r = follow(script, &mut buffer, out);
+    let r = follow(output, script, &mut buffer, out);
     lines::end_line(r.commands, r.unused, out, 0)
 }
 
 // The script, read first, and followed.
-fn read(script: &mut [u8]) {
+fn read(input: Stdin, output: Stdout, script: &mut [u8]) {
     let mut out = [0u8; TEXT];
-    let n = io::read_full(STDIN_FILENO, script);
-    let last = run(&script[0..n], &mut out);
-    io::write_all(STDOUT_FILENO, &out[0..last]);
+    let n = pipes::read_full(input, script);
+    let last = run(output, &script[0..n], &mut out);
+    pipes::write_all(output, &out[0..last]);
 }
 
-fn main() {
+fn main(rt: HostRuntime) {
     let mut script = [0u8; SCRIPT];
-    read(&mut script);
+    read(rt.stdin(), rt.stdout(), &mut script);
 }

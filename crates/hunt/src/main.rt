@@ -13,7 +13,8 @@ ghost use Rattle.hunt.specs.Said.{refusal_line, end_line, Tells};
 ghost use Rattle.hunt.specs.Tally.{Tallied, Fresh};
 
 use frame::Frame;
-use libc::{STDERR_FILENO, STDIN_FILENO, STDOUT_FILENO};
+use std::env::{Env, FillError};
+use std::io::{Stderr, Stdout};
 use stream::Hunter;
 
 // A k that no hunter begins with.
@@ -24,6 +25,9 @@ const ARGUMENT: usize = 2;
 
 // The octets of the longest line.
 const LINE: usize = 67;
+
+// What is read at once.
+const PORTION: usize = 65536;
 
 // Octets of an input that no run comes to.
 const NEVER: u64 = 0x4000000000000000;
@@ -59,7 +63,7 @@ pub struct Given {
 }
 
 // One portion, again with its rest until no frame is found in it. Each frame is written as it is found.
-fn feed(h: Hunter, portion: &[u8], unit: &mut [u8]) -> Given
+fn feed(output: Stdout, h: Hunter, portion: &[u8], unit: &mut [u8]) -> Given
     ensures hunter_value { result.hunter ≡ (fed_by h portion.now unit.old).hunter }
     ensures frames_value { result.frames ≡ length (fed_by h portion.now unit.old).frames }
     ensures unit_after { unit.new ≡ (fed_by h portion.now unit.old).buffer }
@@ -76,7 +80,7 @@ fn feed(h: Hunter, portion: &[u8], unit: &mut [u8]) -> Given
                 hunter: next,
             };
         }
-        io::write_all(STDOUT_FILENO, unit);
+        pipes::write_all(output, unit);
         t = next;
         at += r.taken;
         frames += 1;
@@ -92,7 +96,7 @@ pub struct Tally {
 }
 
 // The input, portion by portion. Nothing says that an input ends, and a proved loop has to: it stops at a number of octets that no run comes to.
-fn follow(h: Hunter, input: &mut [u8], unit: &mut [u8]) -> Tally
+fn follow(rt: HostRuntime, h: Hunter, input: &mut [u8], unit: &mut [u8]) -> Tally
     requires { Fresh h × (length input.old ≡ 65536) × (length unit.old ≡ 1024) }
     ensures { Tallied h.k result }
 {
@@ -103,12 +107,11 @@ fn follow(h: Hunter, input: &mut [u8], unit: &mut [u8]) -> Tally
         waiting: 0,
     };
     while all.read < NEVER {
-        let got = libc::read(STDIN_FILENO, input);
-        let n = io::count(got, input);
+        let n = pipes::read_some(rt.stdin(), input);
         if n == 0 {
             return all;
         }
-        let g = feed(t, &input[..n], unit);
+        let g = feed(rt.stdout(), t, &input[..n], unit);
         let next = g.hunter;
         t = next;
         all.read += n as u64;
@@ -127,53 +130,85 @@ fn passed_over(t: Tally) -> u64
 }
 
 // The last line of a run.
-fn end(frames: u64, passed: u64, waiting: u64, out: &mut [u8])
+fn end(errors: Stderr, frames: u64, passed: u64, waiting: u64, out: &mut [u8])
     requires { length out.old ≡ 67 }
     ensures { out.new ≡ put out.old 0 (end_line frames passed waiting) }
 {
     let third = text::with_three(b"END", frames, passed, waiting, out, 0);
     let last = text::line_end(out, third);
-    io::write_all(STDERR_FILENO, &out[0..last]);
+    pipes::write_errors(errors, &out[0..last]);
 }
 
 // The line of a refusal.
-fn refusal(answer: u8, out: &mut [u8])
+fn refusal(errors: Stderr, answer: u8, out: &mut [u8])
     requires { length out.old ≡ 67 }
     ensures { out.new ≡ put out.old 0 (refusal_line answer) }
 {
     let first = text::with_number(b"hunt:", answer as u64, out, 0);
     let last = text::word(b", k is 0 to 3\n", out, first);
-    io::write_all(STDERR_FILENO, &out[0..last]);
+    pipes::write_errors(errors, &out[0..last]);
 }
 
 // A run, from the command's words on: the input hunted through, and its line; or the line of the refusal.
-fn run(words: usize, first: &[u8], input: &mut [u8], unit: &mut [u8], out: &mut [u8])
+fn run(
+    rt: HostRuntime,
+    words: usize,
+    first: &[u8],
+    input: &mut [u8],
+    unit: &mut [u8],
+    out: &mut [u8],
+)
     requires { (length input.old ≡ 65536) × (length unit.old ≡ 1024) × (length out.old ≡ 67) }
     ensures { Tells (chosen_by words first.now) out.old out.new }
 {
     let k = chosen(words, first);
     let b = stream::begin(k);
     if b.answer != 0 {
-        refusal(b.answer, out);
+        refusal(rt.stderr(), b.answer, out);
         return;
     }
     let fresh = b.hunter;
-    let t = follow(fresh, input, unit);
+    let t = follow(rt, fresh, input, unit);
     let passed = passed_over(t);
-    end(t.frames, passed, t.waiting as u64, out);
+    end(rt.stderr(), t.frames, passed, t.waiting as u64, out);
 }
 
-fn main() {
-    let mut input = io::large_buffer();
+// The octets of the word at a place behind the program's name; none where it is not there or longer than the buffer.
+fn word(rt: HostRuntime, i: usize, octets: &mut [u8]) -> usize
+    ensures { result ≤ length octets.new }
+{
+    match rt.arg(i, octets) {
+        Ok(n) => n,
+        Err(_) => 0,
+    }
+}
+
+// Whether a word stands there, of whatever length.
+fn is_there(rt: HostRuntime, i: usize) -> bool {
+    let mut octets = [0u8; ARGUMENT];
+    match rt.arg(i, &mut octets) {
+        Ok(_) => true,
+        Err(FillError::TooLong) => true,
+        Err(FillError::NotPresent) => false,
+    }
+}
+
+// The command's words, the program's own name among them; three stands for every greater number.
+fn count(rt: HostRuntime) -> usize {
+    if !is_there(rt, 1) {
+        return 1;
+    }
+    if !is_there(rt, 2) {
+        return 2;
+    }
+    3
+}
+
+fn main(rt: HostRuntime) {
+    let mut input = [0u8; PORTION];
     let mut unit = [0u8; Frame::SIZE];
     let mut out = [0u8; LINE];
     let mut first = [0u8; ARGUMENT];
-    let n = os::arg(1, &mut first);
-    run(
-        os::arg_count(),
-        &first[..n],
-        &mut input,
-        &mut unit,
-        &mut out,
-    );
+    let n = word(rt, 1, &mut first);
+    run(rt, count(rt), &first[..n], &mut input, &mut unit, &mut out);
 }

@@ -13,7 +13,7 @@ ghost use Rattle.printout.specs.Left.{image_for, taken as taken_by, entry_at};
 
 use catalogue::{ChannelEntry, Entry, Found, Image, Places};
 use facts::Facts;
-use libc::{STDIN_FILENO, STDOUT_FILENO};
+use std::io::{Stdin, Stdout};
 
 // The most octets that are read.
 const CATALOGUE: usize = 32768;
@@ -212,16 +212,16 @@ fn print(s: &[u8], out: &mut [u8]) -> usize
 }
 
 // Both lengths are asked for: a shorter buffer could cut a catalogue, or its text.
-fn read(s: &mut [u8], out: &mut [u8])
+fn read(input: Stdin, output: Stdout, s: &mut [u8], out: &mut [u8])
     requires { (length s.old ≡ 32768) × (length out.old ≡ 283147) }
 {
-    let n = io::read_full(STDIN_FILENO, s);
+    let n = pipes::read_full(input, s);
     let end = print(&s[0..n], out);
-    io::write_all(STDOUT_FILENO, &out[0..end]);
+    pipes::write_all(output, &out[0..end]);
 }
 
-fn main() {
+fn main(rt: HostRuntime) {
     let mut s = [0u8; CATALOGUE];
     let mut out = [0u8; TEXT];
-    read(&mut s, &mut out);
+    read(rt.stdin(), rt.stdout(), &mut s, &mut out);
 }

@@ -13,8 +13,8 @@ ghost use Rattle.station.specs.Handed.{WentOn};
 ghost use Rattle.receive.specs.Told.{frame_text, outcome_text};
 
 use frame::Frame;
-use libc::{STDIN_FILENO, STDOUT_FILENO};
 use state::Station;
+use std::io::Stdout;
 
 const SPACECRAFT: u8 = 1;
 
@@ -31,7 +31,7 @@ const LIST: usize = 900;
 const LINES: usize = 19565;
 
 // What happened with a frame: its line, and a line for each event.
-fn tell(index: u64, answer: u8, events: usize, list: &[u16], out: &mut [u8])
+fn tell(output: Stdout, index: u64, answer: u8, events: usize, list: &[u16], out: &mut [u8])
     requires { (events ≤ 300) × (length list.now ≡ 900) × (length out.old ≡ 19565) }
     ensures { out.new ≡ put out.old 0 (frame_text index answer events list.now) }
 {
@@ -39,11 +39,12 @@ fn tell(index: u64, answer: u8, events: usize, list: &[u16], out: &mut [u8])
     let last = text::numbers(index, answer as u64, events as u64, out, letter);
     let head = text::line_end(out, last);
     let end = lines::events(list, events, out, head);
-    io::write_all(STDOUT_FILENO, &out[0..end]);
+    pipes::write_all(output, &out[0..end]);
 }
 
 // One frame, taken by the station and told. Answers the state after it.
 fn receive(
+    output: Stdout,
     s: Station,
     desks: &mut [u8],
     store: &mut [u8],
@@ -57,22 +58,23 @@ fn receive(
     ensures out_after { out.new ≡ put out.old 0 (outcome_text index (framed s desks.old store.old list.old unit.now)) }
 {
     let f = reception::take_frame(s, desks, store, list, unit);
-    tell(index, f.answer, f.events, list, out);
+    tell(output, index, f.answer, f.events, list, out);
     let after = f.station;
     after
 }
 
 // The end of the input: how many frames there were, and how many octets were left over.
-fn end(frames: u64, left: u64, out: &mut [u8])
+fn end(output: Stdout, frames: u64, left: u64, out: &mut [u8])
     requires { length out.old ≡ 19565 }
     ensures { out.new ≡ put out.old 0 (end_line frames left) }
 {
     let last = lines::end_line(frames, left, out, 0);
-    io::write_all(STDOUT_FILENO, &out[0..last]);
+    pipes::write_all(output, &out[0..last]);
 }
 
 // Nothing says that an input ends, and a proved loop has to: it stops at a number of frames that no run comes to.
-fn main() {
+fn main(rt: HostRuntime) {
+    let output = rt.stdout();
     let mut desks = [0u8; DESKS];
     let mut store = [0u8; STORE];
     let mut list = [0u16; LIST];
@@ -83,13 +85,13 @@ fn main() {
     let mut s = fresh.station;
     let mut frames: u64 = 0;
     while frames < u64::MAX {
-        let got = io::read_full(STDIN_FILENO, &mut unit);
+        let got = pipes::read_full(rt.stdin(), &mut unit);
         if got < Frame::SIZE {
-            end(frames, got as u64, &mut out);
+            end(output, frames, got as u64, &mut out);
             return;
         }
         s = receive(
-            s, &mut desks, &mut store, &mut list, &unit, frames, &mut out,
+            output, s, &mut desks, &mut store, &mut list, &unit, frames, &mut out,
         );
         frames += 1;
     }

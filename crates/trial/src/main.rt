@@ -13,9 +13,9 @@ ghost use Rattle.script.specs.Memory.{memory};
 ghost use Rattle.drive.specs.Calls.{carried_out};
 ghost use Rattle.trial.specs.Fetch.{Fetches};
 
-use libc::{STDIN_FILENO, STDOUT_FILENO};
 use script::{Command, Payload, Run};
 use state::Station;
+use std::io::{Stdin, Stdout};
 
 // The octets of nine desks, and of sixty-five blocks and one more.
 const DESKS: usize = 73782;
@@ -27,18 +27,20 @@ const PAYLOAD: usize = 2048;
 
 const TEXT: usize = 90844;
 
+// What is read at once of what nobody asks for.
+const PORTION: usize = 65536;
+
 // Octets of an input that no run comes to.
 const NEVER: u64 = 0x4000000000000000;
 
 // How many octets the rest of the input has: it is read to its end.
-fn rest() -> u64
+fn rest(input: Stdin) -> u64
     ensures { result ≤ 0x4000000000010000 }
 {
-    let mut came = io::large_buffer();
+    let mut came = [0u8; PORTION];
     let mut n: u64 = 0;
     while n < NEVER {
-        let got = libc::read(STDIN_FILENO, &mut came);
-        let k = io::count(got, &came);
+        let k = pipes::read_some(input, &mut came);
         if k == 0 {
             return n;
         }
@@ -55,12 +57,12 @@ pub enum Fetched {
     Unused(u64),
 }
 
-fn fetch(payload: &mut [u8]) -> Fetched
+fn fetch(input: Stdin, payload: &mut [u8]) -> Fetched
     requires { length payload.old ≡ 2048 }
     ensures { Fetches result }
 {
     let mut head = [0u8; Command::SIZE];
-    let got = io::read_full(STDIN_FILENO, &mut head);
+    let got = pipes::read_full(input, &mut head);
     if got < Command::SIZE {
         return Fetched::Unused(got as u64);
     }
@@ -68,10 +70,10 @@ fn fetch(payload: &mut [u8]) -> Fetched
     let p = x.payload();
     match p {
         Payload::Refused => {
-            return Fetched::Unused(16 + rest());
+            return Fetched::Unused(16 + rest(input));
         }
         Payload::Octets(k) => {
-            let came = io::read_full(STDIN_FILENO, &mut payload[0..k]);
+            let came = pipes::read_full(input, &mut payload[0..k]);
             if came < k {
                 return Fetched::Unused(16 + came as u64);
             }
@@ -82,6 +84,7 @@ fn fetch(payload: &mut [u8]) -> Fetched
 
 // One command carried out, whose payload is the first k octets of a buffer, and its text printed.
 fn obey(
+    output: Stdout,
     w: Run,
     x: Command,
     payload: &[u8],
@@ -97,22 +100,22 @@ fn obey(
 {
     let r = drive::carry_out(w, x, &payload[0..k], desks, store, out);
     let last = r.end;
-    io::write_all(STDOUT_FILENO, &out[0..last]);
+    pipes::write_all(output, &out[0..last]);
     r
 }
 
 // The last line: how many commands were carried out, and how many octets of the script were not used.
-fn end(n: u64, unused: u64, out: &mut [u8])
+fn end(output: Stdout, n: u64, unused: u64, out: &mut [u8])
     requires { length out.old ≡ 90844 }
     ensures { out.new ≡ put out.old 0 (end_line n unused) }
 {
     let last = lines::end_line(n, unused, out, 0);
-    io::write_all(STDOUT_FILENO, &out[0..last]);
+    pipes::write_all(output, &out[0..last]);
 }
 
 // The script, command by command. Nothing says that an input ends, and a proved loop has to: it stops at a number of commands that no run
 // comes to.
-fn follow(desks: &mut [u8], store: &mut [u8], out: &mut [u8])
+fn follow(input: Stdin, output: Stdout, desks: &mut [u8], store: &mut [u8], out: &mut [u8])
     requires { length out.old ≡ 90844 }
 {
     let mut payload = [0u8; PAYLOAD];
@@ -125,23 +128,23 @@ fn follow(desks: &mut [u8], store: &mut [u8], out: &mut [u8])
     };
     let mut n: u64 = 0;
     while n < u64::MAX {
-        let f = fetch(&mut payload);
+        let f = fetch(input, &mut payload);
         match f {
             Fetched::Unused(m) => {
-                end(n, m, out);
+                end(output, n, m, out);
                 return;
             }
             Fetched::Octets(x, k) => {
-                w = obey(w, x, &payload, k, desks, store, out);
+                w = obey(output, w, x, &payload, k, desks, store, out);
             }
         }
         n += 1;
     }
 }
 
-fn main() {
+fn main(rt: HostRuntime) {
     let mut desks = [0u8; DESKS];
     let mut store = [0u8; STORE];
     let mut out = [0u8; TEXT];
-    follow(&mut desks, &mut store, &mut out);
+    follow(rt.stdin(), rt.stdout(), &mut desks, &mut store, &mut out);
 }

@@ -12,13 +12,16 @@ ghost use Rattle.std.specs.Prelude.{◌≡◌, length, set};
 ghost use Rattle.octets.specs.Buffer.{put};
 ghost use Rattle.vectors.specs.Kept.{kept, one_more, printed, came as came_of, all_came};
 
-use libc::{STDIN_FILENO, STDOUT_FILENO};
+use std::io::Stdout;
 
 // The octets of the longest question: a letter, a space and 2,048 digits.
 const QUESTION: usize = 2050;
 
 // The octets of the longest line of answers: a letter, a space, the digits of 1,024 octets, and the line's end.
 const ANSWER: usize = 2051;
+
+// What is read at once.
+const PORTION: usize = 4096;
 
 // How many octets of a line there are with one more, which is kept if it can still belong to a question. One more than a question can
 // have stands for every greater number.
@@ -35,7 +38,7 @@ fn gather(line: &mut [u8], held: usize, x: u8) -> usize
 }
 
 // A line's end. An empty line, and a comment of any length, is passed over.
-fn end_line(line: &[u8], held: usize, out: &mut [u8])
+fn end_line(output: Stdout, line: &[u8], held: usize, out: &mut [u8])
     requires { (length line.now ≡ 2050) × (length out.old ≡ 2051) }
     ensures { out.new ≡ put out.old 0 (printed line.now held) }
 {
@@ -47,48 +50,47 @@ fn end_line(line: &[u8], held: usize, out: &mut [u8])
     }
     let last = answers::answer(line, held, out);
     let end = text::line_end(out, last);
-    io::write_all(STDOUT_FILENO, &out[0..end]);
+    pipes::write_all(output, &out[0..end]);
 }
 
 // One octet of the script. Answers how many octets the line has that is begun then.
-fn take_octet(line: &mut [u8], held: usize, x: u8, out: &mut [u8]) -> usize
+fn take_octet(output: Stdout, line: &mut [u8], held: usize, x: u8, out: &mut [u8]) -> usize
     requires { (length line.old ≡ 2050) × (length out.old ≡ 2051) }
     ensures { kept result line.new out.new ≡ came_of x (kept held line.old out.old) }
 {
     if x == b'\n' {
-        end_line(line, held, out);
+        end_line(output, line, held, out);
         return 0;
     }
     gather(line, held, x)
 }
 
-fn take_in(came: &[u8], line: &mut [u8], held: usize, out: &mut [u8]) -> usize
+fn take_in(output: Stdout, came: &[u8], line: &mut [u8], held: usize, out: &mut [u8]) -> usize
     requires { (length line.old ≡ 2050) × (length out.old ≡ 2051) }
     ensures { kept result line.new out.new ≡ all_came came.now (kept held line.old out.old) }
 {
     let mut n = held;
     let mut i: usize = 0;
     while i < came.len() {
-        n = take_octet(line, n, came[i], out);
+        n = take_octet(output, line, n, came[i], out);
         i += 1;
     }
     n
 }
 
 // Nothing says that an input ends, and a proved loop has to: it counts down from a number of turns that no run uses up.
-fn main() {
-    let mut came = io::buffer();
+fn main(rt: HostRuntime) {
+    let mut came = [0u8; PORTION];
     let mut line = [0u8; QUESTION];
     let mut out = [0u8; ANSWER];
     let mut held: usize = 0;
     let mut turns = u64::MAX;
     while turns > 0 {
-        let got = libc::read(STDIN_FILENO, &mut came);
-        let n = io::count(got, &came);
+        let n = pipes::read_some(rt.stdin(), &mut came);
         if n == 0 {
             return;
         }
-        held = take_in(&came[0..n], &mut line, held, &mut out);
+        held = take_in(rt.stdout(), &came[0..n], &mut line, held, &mut out);
         turns -= 1;
     }
 }
