@@ -1,6 +1,5 @@
 -- `room::file_of` meets its contract. The invariant: what is left to search gives the answer. Assumes nothing.
 use mathlib.Core.Path.{sym, ◌∙◌}
-use Prim.Native.Nat.{◌-◌}
 use native.Mathlib.Omega.{arith}
 use borrow.Author.Rules.{rules}
 use Rattle.octets.proofs.Lists.{unmap}

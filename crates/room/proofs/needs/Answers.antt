@@ -1,7 +1,7 @@
 -- `room::needs` meets its contract. The invariant: the sum and the needs of what is left give the whole. A need is below 2^49, as the length
 -- in a slot is below 2^64, so 32 of them cannot wrap. Assumes nothing.
 use mathlib.Core.Path.{sym, ◌∙◌}
-use Prim.Native.Nat.{◌-◌, ◌^◌, ◌<◌}
+use Prim.Native.Nat.{◌^◌, ◌<◌}
 use native.Mathlib.Omega.{arith}
 use borrow.Author.Rules.{rules}
 use Rattle.octets.proofs.Lists.{unmap}
@@ -13,7 +13,7 @@ use Rattle.room.proofs.needs.Goals.{After-need-sum}
 
 small : (c : After-need-sum) → c.need-sum.result < 2 ^ 49
 small c =
-    rw c.need-sum.ensures (need-small _ (bits_fit c.args.t1 _ c.loop-k.k c.well_formed.0.1.1))
+    rw c.need-sum.ensures (need-small _ (bits_fit c.args.slots _ c.loop-k.k c.well_formed.0.1.1))
 
 pub loop-k-init : goal.loop-k-init
 loop-k-init c = summing-first _ (search (rules, unmap))
