@@ -1,7 +1,6 @@
 -- `octets_held` meets its contract, by its test and the contracts of `all_zero`, `look_at` and `size`. Assumes nothing.
-use mathlib.Core.Path.{◌≡◌, sym, ap, ◌∙◌}
+use mathlib.Core.Path.{◌≡◌, refl, sym, ap, ◌∙◌}
 use mathlib.Core.Bool.{Bool, true, false}
-use mathlib.Core.Logic.{⊎_elim}
 use mathlib.Core.List.{List}
 use Prim.Native.Nat.{ℕ, ◌-◌, ◌≤◌, ◌<◌}
 use native.Mathlib.Omega.{arith}
@@ -16,8 +15,7 @@ use Rattle.octets.proofs.Tests.{denied, granted}
 use Rattle.packet.specs.Header.{look_of, size_of}
 use Rattle.packet.specs.declared.Packet.{Packet}
 use Rattle.packet.specs.declared.Look.{Look}
-use Rattle.packet.specs.declared.Look.TheVariants.{Good}
-use Rattle.packet.proofs.Tags.{look-told}
+use Rattle.packet.specs.declared.Look.TheVariants.{Short, Bad, Good}
 use Rattle.state.specs.Decision.{octets_held, longer}
 use Rattle.desks.proofs.octets_held.Goals as goal
 
@@ -42,6 +40,12 @@ module _ (h : ℕ) (d : List ℕ) where
     unfolding longer
     sized e g s t = t ∙ rw s (sym (header e g))
 
+none_longer : (h : ℕ) (l : Look) → ((p : Packet) → l ≡ Good p → ⊥) → longer h l ≡ false
+unfolding longer
+none_longer h Short other = refl
+none_longer h Bad other = refl
+none_longer h (Good p) other = absurd (other p refl)
+
 pub returns-then-not-all_zero : goal.returns-then-not-all_zero
 returns-then-not-all_zero c = sym (spoilt _ _ (search denied))
 
@@ -49,12 +53,9 @@ pub returns-then-h-lt-HEADER : goal.returns-then-h-lt-HEADER
 returns-then-h-lt-HEADER c = sym (few _ _ (search granted) (omega arith))
 
 pub returns-in_default : goal.returns-in_default
-unfolding longer
 returns-in_default c =
     let look = sym c.look_at-l.ensures in
-    ⊎_elim (λ tag. sym (header _ _ (search granted) (look ∙ look-told _ tag) (omega arith)))
-    (λ tag. sym (header _ _ (search granted) (look ∙ look-told _ tag) (omega arith)))
-    ?
+    sym (header _ _ (search granted) look (omega arith) ∙ none_longer _ _ c.in_default.not-Good)
 
 pub returns : goal.returns
 returns c =

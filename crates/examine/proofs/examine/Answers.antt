@@ -9,13 +9,16 @@ use Rattle.frame.proofs.Sizes.{coded}
 use Rattle.examine.proofs.examine.Goals as goal
 
 pub returns-then-frame-ne-SIZE : goal.returns-then-frame-ne-SIZE
-returns-then-frame-ne-SIZE c = (sym (other-size _ _ _ c.if-frame-ne-SIZE.true), sym (plain-unframed _ _ (missized _ c.if-frame-ne-SIZE.true)))
+returns-then-frame-ne-SIZE c = record {
+  value = sym (other-size _ _ _ c.if-frame-ne-SIZE.true);
+  plain_after = sym (plain-unframed _ _ (missized _ c.if-frame-ne-SIZE.true));
+}
 
 pub returns-then-not-marked : goal.returns-then-not-marked
 returns-then-not-marked c =
     let size = c.if-frame-ne-SIZE.false in
     let unlike = sym c.marked.ensures ∙ not-true _ c.if-not-marked.true-raw in
-    (sym (other-marker _ _ _ size unlike), sym (plain-unframed _ _ (unmarked _ size unlike)))
+    record { value = sym (other-marker _ _ _ size unlike); plain_after = sym (plain-unframed _ _ (unmarked _ size unlike)) }
 
 pub returns : goal.returns
 returns c =

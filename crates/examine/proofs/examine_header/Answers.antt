@@ -1,7 +1,6 @@
 -- `examine_header` meets its contract: the tests stand in the order of the refusals' numbers. Assumes nothing.
 use mathlib.Core.Path.{refl, sym, ◌∙◌}
 use Rattle.frame.proofs.Answers.{other-version, other-spacecraft, fill, not-watched, pointer-refused, accepted}
-use Rattle.frame.proofs.Tags.{tag-not-watched, tag-refused, tag-allowed}
 use Rattle.examine.proofs.examine_header.Goals as goal
 
 pub returns-then-h-ne-VERSION : goal.returns-then-h-ne-VERSION
@@ -18,13 +17,13 @@ pub returns-in_default : goal.returns-in_default
 returns-in_default c =
     sym
     (not-watched _ _ _ c.if-h-ne-VERSION.false c.if-h-spacecraft.false c.if-channel-eq-FILL.false
-    (sym c.desk_of-w.ensures ∙ tag-not-watched _ c.in_default.keys2))
+    (sym c.desk_of-w.ensures ∙ c.in_default.is))
 
 pub returns-in-Refused : goal.returns-in-Refused
 returns-in-Refused c =
     sym
     (pointer-refused _ _ _ c.if-h-ne-VERSION.false c.if-h-spacecraft.false c.if-channel-eq-FILL.false _ (sym c.desk_of-w.ensures ∙ c.in-Desk.is)
-    (sym c.meaning-p.ensures ∙ tag-refused _ c.in-Refused.keys1))
+    (sym c.meaning-p.ensures ∙ c.in-Refused.is))
 
 pub returns : goal.returns
 returns c =
@@ -35,7 +34,7 @@ returns c =
       spacecraft = c.if-h-spacecraft.false;
       no-fill = c.if-channel-eq-FILL.false;
       desk = sym c.desk_of-w.ensures ∙ c.in-Desk.is;
-      allowed = λ e. tag-allowed _ c.in_default-p.keys2 (c.meaning-p.ensures ∙ e);
+      allowed = λ e. c.in_default-p.not-Refused (c.meaning-p.ensures ∙ e);
       counter = refl;
       pointer = c.meaning-p.ensures;
     }))
