@@ -10,17 +10,15 @@ use borrow.Author.Tests.{le-leb, lt-leb, leb-true}
 use lib.Dec.{leb}
 use lib.ListN.{length, take, drop, length-drop}
 use lib.Seq.{drop-drop}
-use Rattle.octets.specs.Buffer.{put}
 use Rattle.octets.specs.Number.{part}
 use Rattle.octets.proofs.Lists.{whole_part}
-use Rattle.octets.proofs.Put.{part-put-in}
 use Rattle.script.specs.declared.Command.{Command}
 use Rattle.script.specs.declared.Payload.{Payload}
 use Rattle.script.specs.declared.Payload.TheVariants.{Octets, Refused}
 use Rattle.script.specs.declared.Next.{Next}
 use Rattle.script.specs.declared.Next.TheVariants.{Goes, Ends}
 use Rattle.script.specs.Script.{command_of}
-use Rattle.script.specs.Follow.{next_by, next_of, Followed, leaves, followed_in, followed}
+use Rattle.script.specs.Follow.{next_by, next_of, leaves, followed_in, followed}
 
 -- what a payload makes of a command
 module _ (left : ℕ) (x : Command) {p : Payload} where

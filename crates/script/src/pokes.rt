@@ -10,7 +10,7 @@ use packet::{Application, Count};
 use state::{Desk, Slot, Station};
 
 fn lend(w: Run, x: Command, desks: &[u8], store: &[u8]) -> Run
-    ensures store_value { memory result desks.now store.now ≡ lent x (memory w desks.now store.now) }
+    ensures memory_value { memory result desks.now store.now ≡ lent x (memory w desks.now store.now) }
     ensures end_value { result.end ≡ w.end }
 {
     let mut r = w;
@@ -175,7 +175,7 @@ fn poke_state(s: Station, a: u8, b: u16, d: u64) -> Station
 
 // M, P or Q, by the letter. They print nothing.
 pub fn poke(w: Run, x: Command, desks: &mut [u8], store: &mut [u8]) -> Run
-    ensures store_after { memory result desks.new store.new ≡ poked_by x (memory w desks.old store.old) }
+    ensures memory_after { memory result desks.new store.new ≡ poked_by x (memory w desks.old store.old) }
     ensures end_value { result.end ≡ 0 }
 {
     let mut r = w;

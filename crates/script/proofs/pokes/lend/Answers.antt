@@ -6,6 +6,6 @@ use Rattle.script.proofs.pokes.lend.Goals as goal
 pub returns : goal.returns
 unfolding lent
 returns c = record {
-  store_value = rw (c.least-2.ensures, c.least.ensures);
+  memory_value = rw (c.least-2.ensures, c.least.ensures);
   end_value = refl;
 }

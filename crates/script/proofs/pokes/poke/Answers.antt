@@ -6,21 +6,30 @@ use Rattle.script.proofs.pokes.poke.Goals as goal
 
 pub returns-then-letter-eq77 : goal.returns-then-letter-eq77
 unfolding poked_by
-returns-then-letter-eq77 c = (rw (eq-eqb _ _ c.if-letter-eq77.true) c.lend.ensures.store_value, c.lend.ensures.end_value)
+returns-then-letter-eq77 c = record {
+  memory_after = rw (eq-eqb _ _ c.if-letter-eq77.true) c.lend.ensures.memory_value;
+  end_value = c.lend.ensures.end_value;
+}
 
 pub returns-then-letter-eq80 : goal.returns-then-letter-eq80
 unfolding poked_by octet_poked
 returns-then-letter-eq80 c =
     let set = c.poke_octet.ensures in
-    (rw (ne_eqb _ _ c.if-letter-eq77.false, eq-eqb _ _ c.if-letter-eq80.true, set.0, set.1), refl)
+    record {
+      memory_after = rw (ne_eqb _ _ c.if-letter-eq77.false, eq-eqb _ _ c.if-letter-eq80.true, set.0, set.1);
+      end_value = refl;
+    }
 
 pub returns-then-letter-eq81 : goal.returns-then-letter-eq81
 unfolding poked_by state_poked
-returns-then-letter-eq81 c = (rw (c.if-letter-eq81.true, c.poke_state-r.ensures), refl)
+returns-then-letter-eq81 c = record {
+  memory_after = rw (c.if-letter-eq81.true, c.poke_state-r.ensures);
+  end_value = refl;
+}
 
 pub returns : goal.returns
 unfolding poked_by
 returns c = record {
-  store_after = rw (ne_eqb _ _ c.if-letter-eq77.false, ne_eqb _ _ c.if-letter-eq80.false, ne_eqb _ _ c.if-letter-eq81.false);
+  memory_after = rw (ne_eqb _ _ c.if-letter-eq77.false, ne_eqb _ _ c.if-letter-eq80.false, ne_eqb _ _ c.if-letter-eq81.false);
   end_value = refl;
 }
