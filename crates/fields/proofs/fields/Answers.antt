@@ -34,11 +34,11 @@ returns c =
     record {
       read = Read
           (record {
-            (goal.at.returns c).After-primary_fields = c.primary_fields.ensures i;
-            (goal.at.returns c).After-image_fields = (c.image_fields.ensures ∙ ap (image_if xs) c.find_type-image.ensures) i;
-            (goal.at.returns c).After-navigation_fields = (c.navigation_fields.ensures ∙ ap (navigation_if xs) c.find_type-navigation.ensures) i;
-            (goal.at.returns c).After-time_fields = (c.time_fields.ensures ∙ ap (time_if xs) c.find_type-time.ensures) i;
-            (goal.at.returns c).After-segment_fields = (c.segment_fields.ensures ∙ ap (segment_if xs) c.find_type-segment.ensures) i;
+            primary = c.primary_fields.ensures i;
+            image = (c.image_fields.ensures ∙ ap (image_if xs) c.find_type-image.ensures) i;
+            navigation = (c.navigation_fields.ensures ∙ ap (navigation_if xs) c.find_type-navigation.ensures) i;
+            time = (c.time_fields.ensures ∙ ap (time_if xs) c.find_type-time.ensures) i;
+            segment = (c.segment_fields.ensures ∙ ap (segment_if xs) c.find_type-segment.ensures) i;
           });
       name = (c.name_octets.ensures ∙ ap (name_if xs) c.find_type-navigation.ensures) i;
     }

@@ -26,16 +26,19 @@ fields-requires c = header-fine _ _ (header-part _ c.u32_at-end.ensures) (accept
 pub returns-in-Refused : goal.returns-in-Refused
 unfolding read_header
 returns-in-Refused c =
-    header-told _
+    let file = c.args.file.now in
+    let told = header-told file
     (c.refused_header.ensures
-    ∙ sym (answered (header_says fixed_types _) _ refused_header c.judge-judged.ensures c.in-Refused.is))
+    ∙ sym (answered (header_says fixed_types file) (fields_of (header_of file)) refused_header c.judge-judged.ensures c.in-Refused.is)) in
+    record { value = told.0; result_value = told.1 }
 
 pub returns-in-Good : goal.returns-in-Good
 unfolding read_header
 returns-in-Good c =
     let file = c.args.file.now in
-    header-told _
+    let told = header-told file
     (c.fields.ensures ∙ ap fields_of (header-part file c.u32_at-end.ensures)
     ∙ sym
     (answered (header_says fixed_types file) (fields_of (header_of file)) refused_header c.judge-judged.ensures
-    c.in-Good.is))
+    c.in-Good.is)) in
+    record { value = told.0; result_value = told.1 }
