@@ -12,7 +12,7 @@ low c = copying-low c.loop-done.invariant (omega arith)
 pub loop-done-init : goal.loop-done-init
 loop-done-init c =
     let h = c.requires in
-    copying-first _ _ _ _ _ _ h.0.0 h.0.1 h.1
+    copying-first _ _ _ _ _ _ h.n_in_bounds.0 h.n_in_bounds.1 h.buffer_bound
 
 pub bounds-owner-b : goal.bounds-owner-b
 bounds-owner-b c = omega (arith, low (goal.at.bounds-owner-b c).In-loop-done)

@@ -25,9 +25,9 @@ loop-i-init c = (omega arith, refl, search (rules, unmap), refl)
 
 pub loop-i-preserved : goal.loop-i-preserved
 loop-i-preserved c =
-    let more = map_more number c.args.t1 c.loop-i.out c.loop-i.i c.loop-i.invariant.3 in
+    let more = map_more number c.args.watched c.loop-i.out c.loop-i.i c.loop-i.invariant.3 in
     (omega arith, search rules, c.loop-i.invariant.2, more _ (omega arith) (omega arith))
 
 pub returns : goal.returns
 returns c =
-    map-end number c.args.t1 c.loop-i.out c.loop-i.i c.loop-i.invariant.3 (omega arith) (omega arith)
+    map-end number c.args.watched c.loop-i.out c.loop-i.i c.loop-i.invariant.3 (omega arith) (omega arith)

@@ -32,12 +32,12 @@ returns-then-channels-gt-MOST_CHANNELS c = search tests
 
 pub returns-then-not-good_channels : goal.returns-then-not-good_channels
 returns-then-not-good_channels c =
-    sym (unnamed _ c.args.t2 _ (omega arith) (denied c.good_channels.ensures c.if-not-good_channels.true-raw))
+    sym (unnamed _ c.args.names _ (omega arith) (denied c.good_channels.ensures c.if-not-good_channels.true-raw))
 
 pub returns-then-blocks-eq0 : goal.returns-then-blocks-eq0
 returns-then-blocks-eq0 c =
-    sym (no_store _ c.args.t2 _ (omega arith) (search granted) (omega arith))
+    sym (no_store _ c.args.names _ (omega arith) (search granted) (omega arith))
 
 pub returns : goal.returns
 returns c =
-    sym (store _ c.args.t2 _ (omega arith) (search granted) (omega arith))
+    sym (store _ c.args.names _ (omega arith) (search granted) (omega arith))
