@@ -1,5 +1,4 @@
 -- `show::block_numbers` meets its contract. What is written so far, and the numbers in the rest of the table, is the whole. Assumes nothing.
-use Prim.Native.Nat.{◌-◌}
 use native.Mathlib.Omega.{arith}
 use borrow.Author.Rules.{rules}
 use Rattle.show.proofs.Showing.{numbering-none, numbering-hit, numbering-miss, numbering-all, numbering-few, numbering-room}

@@ -1,6 +1,5 @@
 -- `show::channel_lines` meets its contract. What is written so far, and the lines of the channels that are left, is the whole. Assumes
 -- nothing.
-use Prim.Native.Nat.{◌-◌}
 use native.Mathlib.Omega.{arith}
 use borrow.Author.Rules.{rules}
 use Rattle.octets.proofs.Lists.{unmap}

@@ -1,6 +1,5 @@
 -- `show::slot_lines` meets its contract. What is written so far, and the lines of the slots that are left, is the whole. Assumes nothing.
 use mathlib.Core.Path.{sym, ◌∙◌}
-use Prim.Native.Nat.{◌-◌}
 use native.Mathlib.Omega.{arith}
 use borrow.Author.Rules.{rules}
 use Rattle.octets.proofs.Lists.{unmap}
