@@ -1,6 +1,5 @@
 -- What a question is answered: one law for each outcome, and where an entry of each section stands. Assumes nothing.
 use mathlib.Core.Path.{◌≡◌, refl, sym, ap, ap₂, ◌∙◌}
-use mathlib.Core.Bool.{true, false}
 use mathlib.Core.List.{List, [], ◌∷◌}
 use Prim.Native.Nat.{ℕ, ◌+◌, ◌*◌, ◌<◌, ◌≤◌}
 use native.Mathlib.Nat.{add-zero, add_assoc}
@@ -12,14 +11,11 @@ use Rattle.octets.proofs.Numbers.{number_at-one, number_at-drop}
 use Rattle.sections.specs.Sections.{Row, size, values, entries}
 use Rattle.sections.proofs.Parts.{length-entries}
 use Rattle.sections.proofs.Walks.{entry_at}
-use Rattle.catalogue.specs.declared.FileEntry.{FileEntry}
-use Rattle.catalogue.specs.declared.ImageEntry.{ImageEntry}
-use Rattle.catalogue.specs.declared.ChannelEntry.{ChannelEntry}
 use Rattle.catalogue.specs.declared.Places.{Places}
 use Rattle.catalogue.specs.declared.Found.{Found}
 use Rattle.catalogue.specs.declared.Found.TheVariants.{At, Nowhere}
 use Rattle.catalogue.specs.declared.CatalogueRead.TheVariants as read
-use Rattle.catalogue.specs.Catalogue.{file_widths, image_widths, channel_widths, accepts, files_of, images_of, channels_of}
+use Rattle.catalogue.specs.Catalogue.{file_widths, image_widths, channel_widths, files_of, images_of, channels_of}
 use Rattle.catalogue.specs.Reading.{found_in, Lies}
 use Rattle.catalogue.specs.Asking.{catalogue_read, file_entry, image_entry, channel_entry, asked}
 use Rattle.catalogue.proofs.Judging.{found-lies, found_none, files-at, images-at, channels-at}

@@ -1,25 +1,23 @@
 -- The counts of the channels: one pass over the files, one over the channels. Assumes nothing.
 use mathlib.Core.Path.{◌≡◌, refl, sym, ap, ap₂, ◌∙◌}
-use mathlib.Core.Bool.{Bool, true, false, ◌&&◌, and-false, and-true}
-use mathlib.Core.List.{List, [], ◌∷◌, ◌++◌, map}
-use mathlib.Core.Logic.{◌⊎◌, inl, inr, ⊎_elim}
+use mathlib.Core.Bool.{Bool, true, false, ◌&&◌, and-false}
+use mathlib.Core.List.{List, [], ◌∷◌, map}
+use mathlib.Core.Logic.{◌⊎◌, ⊎_elim}
 use Prim.Native.Nat.{ℕ, zero, suc, ◌+◌, ◌*◌, ◌-◌, ◌<◌, ◌≤◌}
 use native.Mathlib.Nat.{add-zero, sub-zero}
 use native.Mathlib.Numerals.{add-one}
 use native.Mathlib.Decide.{ℕ_discrete}
 use native.Mathlib.Omega.{arith}
-use borrow.Author.Tests.{leb-true, eqb-true, eqb-false, eq-eqb, ne_eqb}
+use borrow.Author.Tests.{leb-true, eq-eqb, ne_eqb}
 use lib.Dec.{leb, eqb}
-use lib.ListN.{length, take, drop, get_or, set, replicate, length-set, length-replicate, get_or-replicate}
+use lib.ListN.{length, drop, get_or, set, replicate, length-set, get_or-replicate}
 use lib.Seq.{get_or-set_same, get_or-set_other}
-use Rattle.octets.specs.Choice.{if◌then◌else◌}
 use Rattle.octets.specs.Number.{number_at}
 use Rattle.octets.specs.Each.{each}
-use Rattle.octets.proofs.Lists.{if-cases}
 use Rattle.octets.proofs.Numbers.{number_at-one}
 use Rattle.octets.proofs.Each.{each-cons}
 use Rattle.octets.proofs.Tests.{and_left, and_right}
-use Rattle.sections.specs.Sections.{Row, size, values, entries}
+use Rattle.sections.specs.Sections.{Row, values, entries}
 use Rattle.catalogue.specs.Catalogue.{file_widths, channel_widths, good_file, same_row, same_rows, channel_rows, channel_of, how_many, counted_channels}
 use Rattle.catalogue.specs.Reading.{tallied}
 use Rattle.octets.proofs.Numbers.{number_at-drop}

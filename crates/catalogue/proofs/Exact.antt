@@ -1,14 +1,14 @@
 -- "Accepted exactly if it is what the writer writes for some list", and the same octets stand for the same list. Assumes nothing.
 use mathlib.Core.Path.{◌≡◌, refl, sym, ap, ap₂, ◌∙◌}
-use mathlib.Core.Bool.{Bool, true, false, ◌&&◌, false≢true}
+use mathlib.Core.Bool.{true, ◌&&◌, false≢true}
 use mathlib.Core.List.{List, [], ◌∷◌, ◌++◌, map}
 use mathlib.Core.Logic.{◌↔◌}
-use Prim.Native.Nat.{ℕ, zero, suc, ◌+◌, ◌*◌, ◌^◌, ◌<◌, ◌≤◌}
+use Prim.Native.Nat.{ℕ, zero, suc, ◌+◌, ◌<◌, ◌≤◌}
 use native.Mathlib.Omega.{arith}
 use borrow.Author.Tests.{leb-true, le-leb, eqb-true, eq-eqb}
-use lib.Dec.{leb, ltb, eqb}
-use lib.ListN.{length, get_or, drop, length-map, length-append}
-use Rattle.octets.specs.Choice.{if◌then◌else◌, Decides}
+use lib.Dec.{leb, eqb}
+use lib.ListN.{length, get_or, length-map, length-append}
+use Rattle.octets.specs.Choice.{Decides}
 use Rattle.octets.specs.Each.{each}
 use Rattle.octets.proofs.Decide.{decides-by, exactly}
 use Rattle.octets.proofs.Tests.{and_left, and_right, and_both}
@@ -17,11 +17,11 @@ use Rattle.octets.specs.Number.{Octets}
 use Rattle.catalogue.specs.declared.Image.{Image}
 use Rattle.catalogue.specs.declared.Image.TheVariants.{Absent, There}
 use Rattle.catalogue.specs.declared.Entry.{Entry}
-use Rattle.sections.specs.Sections.{Row, Fits, AllFit, Sections, section, sections, section_of, sections_of, extent, whole}
+use Rattle.sections.specs.Sections.{Row, AllFit, Sections, sections, sections_of, whole}
 use Rattle.sections.specs.Sections.Fits.{no_field, field}
 use Rattle.sections.specs.Sections.AllFit.{no-entry, entry}
 use Rattle.sections.specs.Sections.Sections.{no-section, another}
-use Rattle.catalogue.specs.Catalogue.{file_widths, file_row, image_widths, image_row, image_rows, channel_widths, how_many, channel_rows, channel_of, counted_channels, widths, tables, written, GoodImage, GoodEntry, AllGood, Good, Catalogue, good_file, rising, same_row, same_rows, behind_files, behind_images, files_of, images_of, channels_of, good_tables, accepts, list_of}
+use Rattle.catalogue.specs.Catalogue.{file_widths, file_row, image_widths, image_row, image_rows, channel_widths, how_many, channel_rows, channel_of, counted_channels, widths, tables, written, GoodImage, AllGood, Good, Catalogue, good_file, rising, same_row, same_rows, files_of, images_of, channels_of, good_tables, accepts, list_of}
 use Rattle.sections.proofs.Parts.{sections-read, sections-whole, sections-written, sections-fit}
 use Rattle.catalogue.proofs.Lists.{rising-rows, list-rows, reads, Reads}
 

@@ -1,6 +1,6 @@
 -- Small catalogues, computed: what is written for a list of two, and octets on both sides of each bound. Assumes nothing.
 use mathlib.Core.Path.{◌≡◌, refl}
-use mathlib.Core.Bool.{Bool, true, false}
+use mathlib.Core.Bool.{true, false}
 use mathlib.Core.List.{List, [], ◌∷◌, ◌++◌}
 use Prim.Native.Nat.{ℕ}
 use lib.ListN.{set}
@@ -10,8 +10,6 @@ use Rattle.facts.specs.declared.Facts.{Facts}
 use Rattle.records.specs.Records.{records, records_from, record_at, is_cut, after, place_of}
 use Rattle.records.specs.Reader.{primary_of, image_at, segment_at, image_of, segment_of}
 use Rattle.sections.specs.Sections.{rows, section, sections, entries, extent, section_of, whole}
-use Rattle.catalogue.specs.declared.Picture.{Picture}
-use Rattle.catalogue.specs.declared.Image.{Image}
 use Rattle.catalogue.specs.declared.Image.TheVariants.{Absent, There}
 use Rattle.catalogue.specs.declared.Entry.{Entry}
 use Rattle.catalogue.specs.Entering.{entry_for}

@@ -1,13 +1,12 @@
 -- The list that a file section and an image section stand for, and the sections of a list. Assumes nothing.
 use mathlib.Core.Path.{◌≡◌, refl, sym, ap, ap₂, ◌∙◌}
-use mathlib.Core.Bool.{Bool, true, false, ◌&&◌}
+use mathlib.Core.Bool.{true, ◌&&◌}
 use mathlib.Core.List.{List, [], ◌∷◌, ◌++◌, map}
-use Prim.Native.Nat.{ℕ, zero, suc, ◌+◌, ◌^◌, ◌<◌, ◌≤◌}
+use Prim.Native.Nat.{ℕ, suc, ◌+◌}
 use native.Mathlib.Omega.{arith}
 use borrow.Author.Tests.{leb-true, ltb-true, le-leb, lt-ltb, eqb-true, eqb-false, eq-eqb, ne_eqb}
 use lib.Dec.{leb, ltb, eqb}
-use lib.ListN.{length, get_or, length-map}
-use Rattle.octets.specs.Choice.{if◌then◌else◌}
+use lib.ListN.{length, get_or}
 use Rattle.octets.specs.Each.{each}
 use Rattle.octets.proofs.Tests.{and_left, and_right, and_both}
 use Rattle.octets.proofs.Lists.{if-cases}
@@ -16,7 +15,7 @@ use Rattle.catalogue.specs.declared.Image.TheVariants.{Absent, There}
 use Rattle.catalogue.specs.declared.Entry.{Entry}
 use Rattle.sections.specs.Sections.{Row, Fits, AllFit}
 use Rattle.sections.specs.Sections.Fits.{no_field, field}
-use Rattle.sections.specs.Sections.AllFit.{no-entry, entry}
+use Rattle.sections.specs.Sections.AllFit.{entry}
 use Rattle.catalogue.specs.Catalogue.{file_widths, file_row, image_widths, image_row, image_rows, GoodImage, GoodEntry, AllGood, good_file, rising, image_of, entry_of, list_of}
 
 -- the indexes of a list's images rise

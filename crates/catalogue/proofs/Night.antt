@@ -1,45 +1,41 @@
 -- What entering does to the catalogue of a list, and a whole night. Assumes nothing.
 use mathlib.Core.Path.{◌≡◌, refl, sym, ap, ap₂, ◌∙◌, subst}
 use mathlib.Core.Bool.{Bool, true, false, not, ◌&&◌, and-false, false≢true}
-use mathlib.Core.List.{List, [], ◌∷◌, ◌++◌, map, append-nil, append_assoc}
-use Prim.Native.Nat.{ℕ, zero, suc, ◌+◌, ◌*◌, ◌^◌, ◌<◌, ◌≤◌}
+use mathlib.Core.List.{List, [], ◌∷◌, ◌++◌, append-nil, append_assoc}
+use Prim.Native.Nat.{ℕ, ◌+◌, ◌<◌, ◌≤◌}
 use native.Mathlib.Omega.{arith}
-use borrow.Author.Tests.{leb-true, le-leb, lt-ltb, le-ltb, ltb-true, ltb-false, eqb-false, eq-eqb, ne_eqb, not-false}
-use lib.Dec.{leb, ltb, eqb}
-use lib.ListN.{length, take, drop, get_or, length-append, length-map, replicate}
+use borrow.Author.Tests.{leb-true, le-leb, lt-ltb, le-ltb, ltb-false, eq-eqb, ne_eqb, not-false}
+use lib.Dec.{leb, eqb}
+use lib.ListN.{length, take, drop, length-append, length-map}
 use lib.Seq.{take_at}
-use Rattle.octets.specs.Number.{Octets, number_at}
+use Rattle.octets.specs.Number.{Octets}
 use Rattle.octets.specs.Buffer.{put}
-use Rattle.octets.specs.Each.{each}
 use Rattle.octets.specs.Reasons.{decided}
 use Rattle.octets.proofs.Numbers.{octets-take, number_at-below}
-use Rattle.octets.proofs.Put.{put-parts, length-put, drop-put-after}
+use Rattle.octets.proofs.Put.{put-parts, length-put}
 use Rattle.octets.proofs.Reasons.{First, None, decided-cases, first-decided, none-decided, decided-append, none-append}
 use Rattle.octets.proofs.Reasons.First.{here, later}
 use Rattle.octets.proofs.Tests.{and_left, and_right, and_both}
 use Rattle.records.specs.Table.{fixed_types, header_length}
 use Rattle.records.specs.Records.{field_of, header_of, header_says, records, place_of}
-use Rattle.records.specs.Reader.{read_header, fields_of, refused_header, primary_of, image_at, image_of, segment_at, segment_of, if_there}
+use Rattle.records.specs.Reader.{read_header, fields_of, primary_of, image_at, image_of, segment_at, segment_of, if_there}
 use Rattle.records.specs.declared.Header.{Header}
 use Rattle.records.specs.declared.HeaderRead.{HeaderRead}
 use Rattle.records.specs.declared.HeaderRead.TheVariants as header
 use Rattle.records.specs.declared.HeaderAnswer.{HeaderAnswer}
 use Rattle.records.specs.declared.Stands.{Stands}
 use Rattle.records.specs.declared.Stands.TheVariants as stands
-use Rattle.records.specs.declared.ImageStructure.{ImageStructure}
 use Rattle.records.specs.declared.ImageStructure.TheVariants as image
-use Rattle.records.specs.declared.ImageSegment.{ImageSegment}
 use Rattle.records.specs.declared.ImageSegment.TheVariants as segment
 use Rattle.facts.specs.declared.Facts.{Facts}
 use Rattle.catalogue.specs.declared.Entry.{Entry}
-use Rattle.catalogue.specs.declared.Entered.{Entered}
 use Rattle.catalogue.specs.declared.Entered.TheVariants.{Refused, Now}
-use Rattle.catalogue.specs.Catalogue.{file_row, written, Good, GoodImage, GoodEntry, AllGood, Catalogue, good_file, accepts, files_of, list_of, listed}
-use Rattle.catalogue.specs.Entering.{image_facts, entry_for, entered, held, entry_says, Outcome, gives, written_in, entry_entered, file_entered}
+use Rattle.catalogue.specs.Catalogue.{file_row, written, Good, GoodImage, GoodEntry, AllGood, good_file, accepts, files_of, list_of, listed}
+use Rattle.catalogue.specs.Entering.{image_facts, entry_for, entered, held, entry_says, Outcome, gives, entry_entered, file_entered}
 use Rattle.catalogue.specs.Night.{Kept, Handed, kept_by, outcome, after, night, entered_by, all_entered, Typed, AllTyped}
-use Rattle.catalogue.specs.Promises.{GoodFacts, Enters}
+use Rattle.catalogue.specs.Promises.{GoodFacts}
 use Rattle.catalogue.proofs.Lists.{list-rows}
-use Rattle.catalogue.proofs.Exact.{files-read, images-read, written-accepted, accepts-exactly}
+use Rattle.catalogue.proofs.Exact.{files-read, images-read, written-accepted}
 
 -- the list that is written is the list that is read
 pub listed-written : {es : List Entry} → Good es → listed (written es) ≡ es

@@ -1,18 +1,17 @@
 -- All that is promised of catalogues. Assumes nothing.
-use mathlib.Core.Path.{◌≡◌, refl, sym, ap, ap₂, ◌∙◌, subst}
-use mathlib.Core.Bool.{Bool, true, false, not, ◌&&◌, false≢true}
+use mathlib.Core.Path.{◌≡◌, refl, sym, ap, ◌∙◌, subst}
+use mathlib.Core.Bool.{Bool, true, false, ◌&&◌, false≢true}
 use mathlib.Core.List.{List, [], ◌∷◌, ◌++◌, map}
-use mathlib.Core.Logic.{◌↔◌, ⊎_elim}
-use Prim.Native.Nat.{ℕ, ◌+◌, ◌<◌, ◌≤◌}
+use mathlib.Core.Logic.{⊎_elim}
+use Prim.Native.Nat.{ℕ, ◌≤◌}
 use native.Mathlib.Omega.{arith}
 use borrow.Author.Tests.{leb-true, lt-ltb, le-ltb, ltb-true, eqb-false, not-false}
-use lib.Dec.{leb, ltb, eqb}
-use lib.ListN.{length, take, drop, get_or, length-append, length-map, replicate}
+use lib.Dec.{leb, eqb}
+use lib.ListN.{length, take, drop, length-append, length-map, replicate}
 use Rattle.octets.specs.Number.{Octets, in_octets}
 use Rattle.octets.specs.Buffer.{put}
 use Rattle.octets.specs.Reasons.{decided}
-use Rattle.octets.proofs.Decide.{exactly, tells, told-false}
-use Rattle.octets.proofs.Lists.{if-cases}
+use Rattle.octets.proofs.Decide.{exactly}
 use Rattle.octets.proofs.Numbers.{octets-take}
 use Rattle.octets.proofs.Put.{length-put, drop-put-after}
 use Rattle.octets.proofs.Reasons.{First, decided-cases, decided-map}
@@ -32,9 +31,9 @@ use Rattle.catalogue.specs.declared.Entered.TheVariants.{Refused, Now}
 use Rattle.catalogue.specs.Catalogue.{file_row, image_rows, how_many, channel_rows, counted_channels, written, Good, AllGood, Catalogue, good_file, accepts, files_of, images_of, channels_of, listed}
 use Rattle.catalogue.specs.Asking.{catalogue_read, file_asked, image_asked, channel_asked}
 use Rattle.catalogue.specs.Entering.{entry_for, entered, held, entry_says, enter_says, Outcome, gives, entry_entered, file_entered, begun}
-use Rattle.catalogue.specs.Answers.{entered_said, read_said, file_said, image_said, channel_said}
-use Rattle.catalogue.specs.Night.{Kept, Handed, kept_by, night, all_entered, evening, AllTyped}
-use Rattle.catalogue.specs.Promises.{Asked, Says, Refused31, GoodFacts, Enters, Entering, Begins, Night, Promises}
+use Rattle.catalogue.specs.Answers.{entered_said}
+use Rattle.catalogue.specs.Night.{Handed, kept_by, evening, AllTyped}
+use Rattle.catalogue.specs.Promises.{Asked, Says, Refused31, GoodFacts, Entering, Begins, Night, Promises}
 use Rattle.catalogue.proofs.Exact.{accepts-exactly, same-list, written-accepted, files-read, images-read, channels-read, few-files}
 use Rattle.catalogue.proofs.Judging.{lies-all, accepts-whole}
 use Rattle.catalogue.proofs.Asking.{file-count, image-count, channel-count, file-stands, image-stands, channel-stands}
@@ -176,6 +175,7 @@ module _ (b : List ℕ) (o : Octets b) (long : 22723 ≤ length b) (used : ℕ) 
           let few = few-files xs (octets-take b used o) (and_right (leb used (length b)) (accepts xs) has) in
           let other = eqb-false (length (files_of xs)) 1024 (ap (λ (t : Bool). t && eqb (length (files_of xs)) 1024) (sym has) ∙ p) in
           omega (arith, ltb-true (length b) (length (entered xs e)) s, new-length xs e few other)
+      go n (later p (later r (later _ s))) q = elim s [ ]
 
   never-34 : (f : Facts) (file : List ℕ) → (file_entered b used f file).answer ≡ Refused 34 → ⊥
   unfolding read_header

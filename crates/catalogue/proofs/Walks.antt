@@ -1,24 +1,22 @@
 -- Loops that go along the entries of a section: a turn, a refusal, the end. Assumes nothing.
-use mathlib.Core.Path.{◌≡◌, refl, sym, ap, ap₂, ◌∙◌}
+use mathlib.Core.Path.{◌≡◌, refl, sym, ap, ◌∙◌}
 use mathlib.Core.Bool.{Bool, true, false, ◌&&◌, and-false}
-use mathlib.Core.List.{List, [], ◌∷◌, ◌++◌, map}
-use mathlib.Core.Logic.{◌⊎◌, inl, inr, ⊎_elim}
-use Prim.Native.Nat.{ℕ, zero, suc, ◌+◌, ◌*◌, ◌-◌, ◌<◌, ◌≤◌}
-use native.Mathlib.Nat.{add-zero, sub-zero, suc-mul}
-use native.Mathlib.Numerals.{add-one}
+use mathlib.Core.List.{List, [], ◌∷◌}
+use mathlib.Core.Logic.{◌⊎◌, ⊎_elim}
+use Prim.Native.Nat.{ℕ, suc, ◌+◌, ◌*◌, ◌-◌, ◌<◌, ◌≤◌}
+use native.Mathlib.Nat.{add-zero, sub-zero}
 use native.Mathlib.Omega.{arith}
-use borrow.Author.Tests.{leb-true, eqb-true, eqb-false, le-leb, lt-leb, lt-ltb, le-ltb, eq-eqb, ne_eqb}
+use borrow.Author.Tests.{eqb-true, le-leb, lt-leb, lt-ltb, le-ltb}
 use lib.Dec.{leb, ltb, eqb}
-use lib.ListN.{length, take, drop, get_or, length-drop}
-use lib.Seq.{drop-drop}
-use Rattle.octets.specs.Number.{part, number, number_at}
+use lib.ListN.{length, drop, get_or, length-drop}
+use Rattle.octets.specs.Number.{number_at}
 use Rattle.octets.specs.Each.{each}
 use Rattle.octets.proofs.Numbers.{number_at-one, number_at-drop}
 use Rattle.sections.proofs.Walks.{entries_next, entries_none, whole-next, fits-here}
 use Rattle.octets.proofs.Each.{each-cons}
 use Rattle.octets.proofs.Tests.{and_left, and_right}
-use Rattle.sections.specs.Sections.{Row, size, values, entries, extent, whole}
-use Rattle.catalogue.specs.Catalogue.{file_widths, image_widths, channel_widths, widths, good_file, rising, channel_of}
+use Rattle.sections.specs.Sections.{values, entries, whole}
+use Rattle.catalogue.specs.Catalogue.{file_widths, image_widths, channel_widths, widths, good_file, rising}
 
 -- files
 pub record Filing (s : List ℕ) (at n i p : ℕ) : Type 0 where

@@ -2,7 +2,6 @@
 use Rattle.std.specs.Prelude.{List, [], ℕ, ltb, length, get_or}
 use Rattle.octets.specs.Choice.{if◌then◌else◌}
 use Rattle.sections.specs.Sections.{Row}
-use Rattle.catalogue.specs.declared.Sizes.{Sizes}
 use Rattle.catalogue.specs.declared.CatalogueRead.{CatalogueRead}
 use Rattle.catalogue.specs.declared.CatalogueRead.TheVariants as read
 use Rattle.catalogue.specs.declared.FileEntry.{FileEntry}

@@ -1,6 +1,6 @@
 -- What is promised of catalogues, one sentence after the other, as one statement. That it holds is proved (proofs/Promised.antt). The calls are the
 -- definitions that their contracts cite (Asking.antt, Entering.antt). Assumes nothing.
-use Rattle.std.specs.Prelude.{◌≡◌, true, false, ◌↔◌, ℕ, ◌≤◌, ◌<◌, length, get_or, take, drop, replicate}
+use Rattle.std.specs.Prelude.{◌≡◌, true, ◌↔◌, ℕ, ◌≤◌, ◌<◌, length, get_or, take, drop, replicate}
 use mathlib.Core.List.{List, [], ◌∷◌, ◌++◌, map, Memᴰ}
 use Rattle.octets.specs.Number.{Octets}
 use Rattle.octets.specs.Buffer.{put}
@@ -20,7 +20,7 @@ use Rattle.catalogue.specs.Catalogue.{file_row, image_rows, channel_of, counted_
 use Rattle.catalogue.specs.Asking.{catalogue_read, file_entry, image_entry, channel_entry, file_asked, image_asked, channel_asked}
 use Rattle.catalogue.specs.Entering.{entry_for, entered, enter_says, gives, file_entered, begun}
 use Rattle.catalogue.specs.Answers.{entered_said, read_said, file_said, image_said, channel_said}
-use Rattle.catalogue.specs.Night.{Kept, Handed, night, all_entered, evening, AllTyped}
+use Rattle.catalogue.specs.Night.{Handed, night, all_entered, evening, AllTyped}
 
 -- numbers that rise: each is less than every one behind it
 abbrev pub Rise : List ℕ → Type 0

@@ -1,10 +1,6 @@
 -- `catalogue::find` meets its contract. Assumes nothing.
-use Prim.Native.Nat.{◌-◌}
 use Rattle.octets.proofs.Tests.{denied, granted}
 use Rattle.catalogue.proofs.Judging.{shape-refused, shape-granted, found-so, found-not}
-use Rattle.catalogue.proofs.find_places.Reads as find-places-reads
-use Rattle.catalogue.proofs.good_sections.Reads as good-sections-reads
-use Rattle.sections.proofs.is_sections.Reads as is-sections-reads
 use Rattle.catalogue.proofs.find.Goals as goal
 
 pub returns-then-not-is_sections : goal.returns-then-not-is_sections

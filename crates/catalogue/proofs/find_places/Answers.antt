@@ -1,10 +1,8 @@
 -- `catalogue::find_places` meets its contract. Assumes nothing.
 use mathlib.Core.Path.{refl}
-use Prim.Native.Nat.{◌-◌}
 use native.Mathlib.Omega.{arith}
 use Rattle.catalogue.proofs.Walks.{lies-two, lies-three}
 use Rattle.catalogue.proofs.Judging.{placed}
-use Rattle.octets.proofs.u16_at.Reads as u16-at-reads
 use Rattle.catalogue.proofs.find_places.Goals as goal
 
 pub u16_at-files-requires : goal.u16_at-files-requires

@@ -1,9 +1,6 @@
-use Prim.Native.Nat.{◌-◌}
 use native.Mathlib.Omega.{arith}
 use mathlib.Core.Logic.{inl, inr}
 use Rattle.catalogue.proofs.Walks.{filing, file-good, file-bad, file-end}
-use Rattle.octets.proofs.u16_at.Reads as u16-at-reads
-use Rattle.octets.proofs.u64_at.Reads as u64-at-reads
 use Rattle.catalogue.proofs.good_files.Goals as goal
 
 pub loop-i-init : goal.loop-i-init

@@ -1,7 +1,5 @@
 use Prim.Native.Nat.{◌-◌}
 use Rattle.catalogue.proofs.Walks.{Filing}
-use Rattle.octets.proofs.u16_at.Reads as u16-at-reads
-use Rattle.octets.proofs.u64_at.Reads as u64-at-reads
 use Rattle.catalogue.proofs.good_files.Given as goal
 
 abbrev pub invariant-loop-i : goal.invariant-loop-i

@@ -1,8 +1,6 @@
-use Prim.Native.Nat.{◌-◌}
 use native.Mathlib.Omega.{arith}
 use mathlib.Core.Logic.{inl, inr}
 use Rattle.catalogue.proofs.Walks.{indexing, image-good, image-bad, image-end}
-use Rattle.octets.proofs.u16_at.Reads as u16-at-reads
 use Rattle.catalogue.proofs.rising_images.Goals as goal
 
 pub loop-i-init : goal.loop-i-init

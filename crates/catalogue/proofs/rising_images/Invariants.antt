@@ -1,6 +1,5 @@
 use Prim.Native.Nat.{◌-◌}
 use Rattle.catalogue.proofs.Walks.{Indexing}
-use Rattle.octets.proofs.u16_at.Reads as u16-at-reads
 use Rattle.catalogue.proofs.rising_images.Given as goal
 
 abbrev pub invariant-loop-i : goal.invariant-loop-i

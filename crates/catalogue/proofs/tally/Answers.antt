@@ -1,4 +1,3 @@
-use Prim.Native.Nat.{◌-◌}
 use native.Mathlib.Omega.{arith}
 use lib.ListN.{get_or}
 use Rattle.catalogue.proofs.Counting.{tallying, tally-low, tally-more, tally-end}

@@ -1,9 +1,7 @@
 use mathlib.Core.Path.{◌∙◌}
-use Prim.Native.Nat.{◌-◌}
 use native.Mathlib.Omega.{arith}
 use mathlib.Core.Logic.{inl, inr}
 use Rattle.catalogue.proofs.Counting.{comparing, compare-skip, compare-short, compare-other, compare-more, compare-end}
-use Rattle.octets.proofs.u16_at.Reads as u16-at-reads
 use Rattle.catalogue.proofs.true_channels.Goals as goal
 
 pub loop-c-init : goal.loop-c-init

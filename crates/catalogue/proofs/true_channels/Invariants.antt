@@ -1,6 +1,5 @@
 use Prim.Native.Nat.{◌-◌}
 use Rattle.catalogue.proofs.Counting.{Comparing}
-use Rattle.octets.proofs.u16_at.Reads as u16-at-reads
 use Rattle.catalogue.proofs.true_channels.Given as goal
 
 abbrev pub invariant-loop-c : goal.invariant-loop-c
