@@ -1,17 +1,16 @@
 -- How a stream is cut: it can be, in one way only, and what is cut of its first part is cut of the whole. Assumes nothing.
-use mathlib.Core.Path.{◌≡◌, refl, sym, ap, ap₂, ◌∙◌, subst}
-use mathlib.Core.Bool.{Bool, true, false, not}
-use mathlib.Core.List.{List, [], ◌∷◌, ◌++◌, append_assoc}
+use mathlib.Core.Path.{◌≡◌, refl, sym, ap, ◌∙◌, subst}
+use mathlib.Core.Bool.{true, false, not}
+use mathlib.Core.List.{List, ◌∷◌, ◌++◌, append_assoc}
 use mathlib.Core.Logic.{◌⊎◌, inl, inr}
 use Prim.Native.Nat.{ℕ, zero, suc, ◌+◌, ◌*◌, ◌≤◌, ◌<◌}
 use native.Mathlib.Omega.{arith}
-use lib.Dec.{ltb, leb}
+use lib.Dec.{ltb}
 use lib.ListN.{length, take, drop, get_or, length-append, length-drop, take-append-drop, get_or-append}
 use lib.Seq.{take-append-le, drop-append-le, drop-cons}
 use borrow.Author.Tests.{lt-ltb, le-ltb, ltb-true, ltb-false, not-true, not-false}
-use Rattle.octets.specs.Choice.{if◌then◌else◌}
 use Rattle.octets.proofs.Lists.{if-cases}
-use Rattle.stream.specs.Stream.{is_marker, wrong_bits, Here, here, Piece, Cuts, Cut, before, cut_in, cut, frames_in, octets_in, over_in, righted}
+use Rattle.stream.specs.Stream.{is_marker, wrong_bits, Here, here, Piece, Cuts, cut_in, cut, frames_in, octets_in, over_in}
 use Rattle.stream.specs.Stream.Here.{Waits, Passes, Whole}
 use Rattle.stream.specs.Stream.Piece.{over, frame}
 use Rattle.stream.specs.Stream.Cuts.{waits, passes, whole}

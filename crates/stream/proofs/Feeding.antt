@@ -7,18 +7,17 @@ use native.Mathlib.Omega.{arith}
 use borrow.Author.Tests.{eq-eqb, ne_eqb}
 use lib.ListN.{length, take, drop, length-append, length-drop}
 use lib.Seq.{drop-drop, drop-append-add, length-take-le}
-use Rattle.octets.specs.Choice.{if◌then◌else◌}
 use Rattle.octets.proofs.Decide.{tells}
 use Rattle.stream.specs.declared.Hunter.{Hunter}
 use Rattle.stream.specs.Stream.{Here, here, Piece, Cuts, frames_in, righted, frames_of, waiting_of, cut}
 use Rattle.stream.specs.Stream.Here.{Waits, Passes, Whole}
 use Rattle.stream.specs.Stream.Piece.{over, frame}
 use Rattle.stream.specs.Stream.Cuts.{waits, passes, whole}
-use Rattle.stream.specs.Hunter.{held, holding, Sound, is_sound, passed, rest_of, seen, HuntOutcome, hunt_gives, hunted_at, hunt_of, hunted}
+use Rattle.stream.specs.Hunter.{holding, Sound, is_sound, passed, rest_of, HuntOutcome, hunt_gives, hunt_of, hunted}
 use Rattle.stream.specs.Feed.{Fed, no_frame, with_frame, after_frames, feed_in, feed, feed_all, last_of}
 use Rattle.stream.proofs.Cutting.{waits-passes, whole-passes, waits-is, passes-is, whole_is, is-few, division, cuts, still, cut-is}
 use Rattle.stream.proofs.Seeking.{passed_none, passed-one}
-use Rattle.stream.proofs.Sounding.{held-holding, waiting-holding, k-holding, size-holding, sound-holding, sound-size, decides-sound}
+use Rattle.stream.proofs.Sounding.{held-holding, waiting-holding, k-holding, sound-holding, sound-size, decides-sound}
 
 -- octets passed over
 abbrev pub overs : List ℕ → List Piece

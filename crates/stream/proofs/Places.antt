@@ -1,28 +1,24 @@
 -- The stream by the places of its frames: that it is so, and in one way only. Assumes nothing.
 use mathlib.Core.Path.{◌≡◌, refl, sym, ap, ap₂, ◌∙◌}
-use mathlib.Core.Bool.{Bool, true, false, true≢false}
+use mathlib.Core.Bool.{true, false, true≢false}
 use mathlib.Core.List.{List, [], ◌∷◌, ◌++◌, map}
-use mathlib.Core.Logic.{◌⊎◌, inl, inr, ⊎_elim}
-use Prim.Native.Nat.{ℕ, zero, suc, ◌+◌, ◌-◌, ◌*◌, ◌^◌, ◌≤◌, ◌<◌}
+use mathlib.Core.Logic.{inl, inr, ⊎_elim}
+use Prim.Native.Nat.{ℕ, suc, ◌+◌, ◌*◌, ◌^◌, ◌≤◌, ◌<◌}
 use native.Mathlib.Nat.{add-zero}
 use native.Mathlib.Numerals.{add-one}
 use native.Mathlib.Decide.{dec_lt}
 use native.Mathlib.Omega.{arith}
-use borrow.Author.Tests.{leb-true}
 use lib.Bits.{bit_xor, xor_block, xor_lt, xor_add_and, and_le_l, and_le_r}
 use lib.Count.{ones, ones_cat}
-use lib.Dec.{leb}
-use lib.ListN.{length, take, drop, get_or, length-drop, take-append-drop}
-use lib.Seq.{drop-drop, drop-cons, get_or-drop, length-take-le}
+use lib.ListN.{length, take, drop, get_or, length-drop}
+use lib.Seq.{drop-drop, get_or-drop}
 use Rattle.octets.specs.Number.{Octets, part, number}
 use Rattle.octets.specs.Choice.{Decides}
 use Rattle.octets.proofs.Decide.{decides-leb, decides-same, tells, told-true}
 use Rattle.octets.proofs.Lists.{drop-take, part-add}
 use Rattle.octets.proofs.Numbers.{octets-drop}
 use Rattle.frame.specs.Header.{marker}
-use Rattle.stream.specs.Stream.{wrong_bits, is_marker, here, Piece, Cuts, cut, frames_in, righted, frames_of, waiting_of}
-use Rattle.stream.specs.Stream.Here.{Waits, Passes, Whole}
-use Rattle.stream.specs.Stream.Piece.{over, frame}
+use Rattle.stream.specs.Stream.{wrong_bits, is_marker, Piece, Cuts, frames_in, righted, frames_of, waiting_of}
 use Rattle.stream.specs.Stream.Cuts.{waits, passes, whole}
 use Rattle.stream.specs.Plainly.{wrong_in, MarkerAt, NoMarker, FramesAt, frame_at, StreamPlainly}
 use Rattle.stream.specs.Plainly.FramesAt.{next, begun, none}

@@ -4,16 +4,16 @@ use mathlib.Core.Bool.{Bool, true, false, true≢false, false≢true}
 use mathlib.Core.List.Memᴰ
 use mathlib.Core.List.{List, [], ◌∷◌, ◌++◌, map, flatten, append-nil, Memᴰ}
 use mathlib.Core.Logic.{inl, inr, ⊎_elim}
-use Prim.Native.Nat.{ℕ, ◌+◌, ◌-◌, ◌*◌, ◌≤◌, ◌<◌}
+use Prim.Native.Nat.{ℕ, ◌+◌, ◌-◌, ◌≤◌, ◌<◌}
 use native.Mathlib.Decide.{ℕ_discrete}
 use native.Mathlib.Omega.{arith}
-use borrow.Author.Tests.{le-leb, lt-leb, eq-eqb, ne_eqb}
+use borrow.Author.Tests.{le-leb, lt-leb, eq-eqb}
 use lib.ListN.{length, take, drop, get_or, replicate, length-append, length-drop, take-append-drop}
 use lib.Bits.{bit_xor, xor_self}
 use lib.Count.{ones}
 use lib.Seq.{length-take-le, take_at, drop_at, get_or-drop}
 use Rattle.octets.specs.Number.{Octets, part, number}
-use Rattle.octets.specs.Choice.{if◌then◌else◌, Decides}
+use Rattle.octets.specs.Choice.{Decides}
 use Rattle.octets.specs.Choice.Decides.{holds, fails}
 use Rattle.octets.specs.Buffer.{all_zero}
 use Rattle.octets.proofs.Decide.{told-true, tells}
@@ -22,9 +22,9 @@ use Rattle.frame.specs.declared.Channel.{Channel}
 use Rattle.frame.specs.Header.{marker, starts_with, derandomised, frame_of}
 use Rattle.frame.specs.Refusals.{examined, examined_header}
 use Rattle.stream.specs.declared.Hunter.{Hunter}
-use Rattle.stream.specs.Stream.{wrong_bits, is_marker, Here, here, Piece, Cuts, cut, frames_in, righted, frames_of, waiting_of}
+use Rattle.stream.specs.Stream.{wrong_bits, is_marker, Here, here, Piece, Cuts, frames_in, righted, frames_of, waiting_of}
 use Rattle.stream.specs.Stream.Here.{Waits, Passes, Whole}
-use Rattle.stream.specs.Stream.Piece.{over, frame}
+use Rattle.stream.specs.Stream.Piece.{frame}
 use Rattle.stream.specs.Stream.Cuts.{waits, passes, whole}
 use Rattle.stream.specs.Hunter.{held, holding, no_hunter, begun_by, Sound, is_sound, passed, rest_of, hunt_gives, HuntOutcome, hunted}
 use Rattle.stream.specs.Feed.{Fed, feed_all, last_of}
@@ -235,6 +235,7 @@ goes_on craft watched f e = rw (eq-eqb (length (righted f)) 1024 (righted-length
 
 not-refused : (k : ℕ) {xs w : List ℕ} {ps : List Piece} (f : List ℕ) → Cuts k xs ps w → Memᴰ f (frames_in ps) → (craft : ℕ) (watched : List Channel)
     → examined craft watched f ≡ examined_header craft watched (frame_of (derandomised f))
+not-refused k f (waits {xs = xs} _) m craft watched = elim m [ ]
 not-refused k f (passes e c) m craft watched = not-refused k f c m craft watched
 not-refused k {xs} f (whole e c) m craft watched =
     ⊎_elim (λ q. rw q (goes_on craft watched (take 1024 xs) (length-take-le 1024 xs (whole_is k xs e).0))) (λ n. not-refused k f c n craft watched) (Memᴰ.cases_cons m)

@@ -6,17 +6,16 @@ use Prim.Native.Nat.{ℕ, suc, ◌+◌, ◌-◌, ◌*◌, ◌%◌, ◌^◌, ◌�
 use native.Mathlib.Nat.{add-zero}
 use native.Mathlib.Numerals.{add-one}
 use native.Mathlib.Omega.{arith}
-use borrow.Author.Tests.{lt-leb, eq-eqb, not-true}
+use borrow.Author.Tests.{lt-leb, not-true}
 use lib.Bits.{bit_xor}
 use lib.Count.{ones}
-use lib.Dec.{eqb, leb}
+use lib.Dec.{eqb}
 use lib.ListN.{length, take, drop, get_or, length-drop, take-append-drop, drop_of_length-le}
 use lib.Seq.{drop-cons, drop-drop, take_all, take-take}
 use Rattle.octets.specs.Number.{Octets, part, number, number_at}
 use Rattle.octets.proofs.Lists.{whole_part, whole-rest, part-part}
 use Rattle.octets.proofs.Numbers.{octets-part}
 use Rattle.octets.proofs.Tests.{and_left, and_right}
-use Rattle.frame.specs.Header.{marker}
 use Rattle.stream.specs.declared.Sought.{Sought}
 use Rattle.stream.specs.declared.Sought.TheVariants.{At, Nowhere}
 use Rattle.stream.specs.Stream.{wrong_bits}

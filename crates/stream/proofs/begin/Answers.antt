@@ -1,9 +1,6 @@
-use Prim.Native.Nat.{◌-◌}
 use native.Mathlib.Omega.{arith}
 use borrow.Author.Tests.{le-leb, lt-leb}
 use Rattle.stream.specs.Hunter.{begun_by, holding}
-use Rattle.stream.proofs.begin.Reads as reads
-use Rattle.stream.proofs.begin.Lts as lts
 use Rattle.stream.proofs.begin.Goals as goal
 
 pub returns-then-k-le-MOST : goal.returns-then-k-le-MOST

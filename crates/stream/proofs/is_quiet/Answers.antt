@@ -1,9 +1,6 @@
 use mathlib.Core.Path.{refl}
-use Prim.Native.Nat.{◌-◌}
 use native.Mathlib.Omega.{arith}
 use Rattle.stream.proofs.Stretches.{quiet-more, quiet-end}
-use Rattle.stream.proofs.is_quiet.Reads as reads
-use Rattle.stream.proofs.is_quiet.Lts as lts
 use Rattle.stream.proofs.is_quiet.Goals as goal
 
 pub loop-i-init : goal.loop-i-init

@@ -3,8 +3,6 @@ use mathlib.Core.Bool.{not, ◌&&◌}
 use Prim.Native.Nat.{◌-◌}
 use lib.ListN.{length, drop}
 use Rattle.stream.specs.Seek.{quiet}
-use Rattle.stream.proofs.is_quiet.Reads as reads
-use Rattle.stream.proofs.is_quiet.Lts as lts
 use Rattle.stream.proofs.is_quiet.Given as goal
 
 abbrev pub invariant-loop-i : goal.invariant-loop-i

@@ -1,12 +1,6 @@
-use Prim.Native.Nat.{◌-◌}
 use native.Mathlib.Omega.{arith}
 use Rattle.octets.proofs.Tests.{granted}
 use Rattle.stream.proofs.Stretches.{scanned, leaps-found, leaps-nowhere}
-use Rattle.stream.proofs.leap.Reads as reads
-use Rattle.stream.proofs.leap.Lts as lts
-use Rattle.octets.proofs.u32_at.Reads as u32-at-reads
-use Rattle.stream.proofs.is_quiet.Reads as is-quiet-reads
-use Rattle.stream.proofs.scan.Reads as scan-reads
 use Rattle.stream.proofs.leap.Goals as goal
 
 pub returns-then-not-is_quiet : goal.returns-then-not-is_quiet

@@ -1,10 +1,6 @@
 use mathlib.Core.Path.{refl, sym, ◌∙◌}
-use Prim.Native.Nat.{◌-◌}
 use native.Mathlib.Omega.{arith}
 use Rattle.stream.proofs.Seeking.{seek_found, seek-more, seek-end}
-use Rattle.stream.proofs.scan.Reads as reads
-use Rattle.stream.proofs.scan.Lts as lts
-use Rattle.stream.proofs.is_near.Reads as is-near-reads
 use Rattle.stream.proofs.scan.Goals as goal
 
 pub loop-i-init : goal.loop-i-init

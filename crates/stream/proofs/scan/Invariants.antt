@@ -2,9 +2,6 @@ use mathlib.Core.Path.{◌≡◌}
 use Prim.Native.Nat.{◌-◌}
 use Rattle.octets.specs.Number.{part}
 use Rattle.stream.specs.Seek.{sought_in}
-use Rattle.stream.proofs.scan.Reads as reads
-use Rattle.stream.proofs.scan.Lts as lts
-use Rattle.stream.proofs.is_near.Reads as is-near-reads
 use Rattle.stream.proofs.scan.Given as goal
 
 abbrev pub invariant-loop-i : goal.invariant-loop-i

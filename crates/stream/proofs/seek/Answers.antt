@@ -1,12 +1,7 @@
 use mathlib.Core.Path.{refl}
-use Prim.Native.Nat.{◌-◌}
 use native.Mathlib.Omega.{arith}
 use borrow.Author.Rules.{rules}
 use Rattle.stream.proofs.Stretches.{stretch-found, stretch-more, stretch-left}
-use Rattle.stream.proofs.seek.Reads as reads
-use Rattle.stream.proofs.seek.Lts as lts
-use Rattle.stream.proofs.leap.Reads as leap-reads
-use Rattle.stream.proofs.scan.Reads as scan-reads
 use Rattle.stream.proofs.seek.Goals as goal
 
 pub loop-i-init : goal.loop-i-init

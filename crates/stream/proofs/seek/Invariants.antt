@@ -2,10 +2,6 @@ use mathlib.Core.Path.{◌≡◌}
 use Prim.Native.Nat.{◌-◌, ◌≤◌}
 use lib.ListN.{length, drop}
 use Rattle.stream.specs.Seek.{sought_in}
-use Rattle.stream.proofs.seek.Reads as reads
-use Rattle.stream.proofs.seek.Lts as lts
-use Rattle.stream.proofs.leap.Reads as leap-reads
-use Rattle.stream.proofs.scan.Reads as scan-reads
 use Rattle.stream.proofs.seek.Given as goal
 
 abbrev pub invariant-loop-i : goal.invariant-loop-i
