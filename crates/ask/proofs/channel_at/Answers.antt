@@ -10,8 +10,6 @@ use Rattle.catalogue.specs.Reading.{Lies}
 use Rattle.catalogue.specs.Asking.{channel_entry, channel_asked}
 use Rattle.catalogue.proofs.Judging.{found-lies}
 use Rattle.catalogue.proofs.Asking.{asked-none, asked-nothing, asked-there, channel-count, channel-stands}
-use Rattle.ask.proofs.channel_entry.Reads as channel-entry-reads
-use Rattle.catalogue.proofs.find.Reads as find-reads
 use Rattle.ask.proofs.channel_at.Goals as goal
 use Rattle.ask.proofs.channel_at.Goals.{In-At, Start}
 

@@ -1,7 +1,5 @@
 -- `ask::channel_entry` meets its contract. Assumes nothing.
-use Prim.Native.Nat.{◌-◌}
 use Rattle.catalogue.proofs.Asking.{channel-made}
-use Rattle.octets.proofs.u16_at.Reads as u16-at-reads
 use Rattle.ask.proofs.channel_entry.Goals as goal
 
 pub returns : goal.returns

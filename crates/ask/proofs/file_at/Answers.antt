@@ -10,8 +10,6 @@ use Rattle.catalogue.specs.Reading.{Lies}
 use Rattle.catalogue.specs.Asking.{file_entry, file_asked}
 use Rattle.catalogue.proofs.Judging.{found-lies}
 use Rattle.catalogue.proofs.Asking.{asked-none, asked-nothing, asked-there, file-count, file-stands}
-use Rattle.ask.proofs.file_entry.Reads as file-entry-reads
-use Rattle.catalogue.proofs.find.Reads as find-reads
 use Rattle.ask.proofs.file_at.Goals as goal
 use Rattle.ask.proofs.file_at.Goals.{In-At, Start}
 

@@ -10,8 +10,6 @@ use Rattle.catalogue.specs.Reading.{Lies}
 use Rattle.catalogue.specs.Asking.{image_entry, image_asked}
 use Rattle.catalogue.proofs.Judging.{found-lies}
 use Rattle.catalogue.proofs.Asking.{asked-none, asked-nothing, asked-there, image-count, image-stands}
-use Rattle.ask.proofs.image_entry.Reads as image-entry-reads
-use Rattle.catalogue.proofs.find.Reads as find-reads
 use Rattle.ask.proofs.image_at.Goals as goal
 use Rattle.ask.proofs.image_at.Goals.{In-At, Start}
 

@@ -1,7 +1,5 @@
 -- `ask::read` meets its contract. Assumes nothing.
-use Prim.Native.Nat.{◌-◌}
 use Rattle.catalogue.proofs.Asking.{read_none, read_all}
-use Rattle.catalogue.proofs.find.Reads as find-reads
 use Rattle.ask.proofs.read.Goals as goal
 
 pub returns-in-Nowhere : goal.returns-in-Nowhere
