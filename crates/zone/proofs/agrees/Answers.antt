@@ -1,7 +1,6 @@
 -- `zone::agrees` is the definition of the same name, by what the pointer says. Assumes nothing.
 use mathlib.Core.Path.{sym, ap}
 use borrow.Author.Rules.{rules}
-use Rattle.frame.proofs.Tags.{tag-no-start}
 use Rattle.zone.specs.Zone.{agrees}
 use Rattle.zone.proofs.agrees.Goals as goal
 
@@ -13,7 +12,7 @@ pub returns-in-NoStart : goal.returns-in-NoStart
 unfolding agrees
 returns-in-NoStart c =
     let i = c.args in
-    sym (ap (agrees i.lacked) (tag-no-start i.pointer c.in-NoStart.keys2))
+    sym (ap (agrees i.lacked) c.in-NoStart.is)
 
 pub returns-in-Refused : goal.returns-in-Refused
 unfolding agrees

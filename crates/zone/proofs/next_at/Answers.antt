@@ -2,19 +2,18 @@
 use mathlib.Core.Path.{sym}
 use native.Mathlib.Omega.{arith}
 use lib.ListN.{drop, length-drop}
-use Rattle.packet.proofs.Tags.{look-told}
 use Rattle.zone.proofs.Turns.{next-short, next-bad, next-part, next-whole, seen}
 use Rattle.zone.proofs.next_at.Goals as goal
 
 pub returns-in-Short : goal.returns-in-Short
 returns-in-Short c =
     let i = c.args in
-    sym (next-short (drop i.at i.zone.now) (seen i.zone.now i.at c.look_at-look.ensures (look-told _ c.in-Short.keys1)))
+    sym (next-short (drop i.at i.zone.now) (seen i.zone.now i.at c.look_at-look.ensures c.in-Short.is))
 
 pub returns-in-Bad : goal.returns-in-Bad
 returns-in-Bad c =
     let i = c.args in
-    sym (next-bad (drop i.at i.zone.now) (seen i.zone.now i.at c.look_at-look.ensures (look-told _ c.in-Bad.keys2)))
+    sym (next-bad (drop i.at i.zone.now) (seen i.zone.now i.at c.look_at-look.ensures c.in-Bad.is))
 
 pub returns-then-zone-at : goal.returns-then-zone-at
 returns-then-zone-at c =
