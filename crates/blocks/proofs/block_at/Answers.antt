@@ -1,6 +1,5 @@
 -- `blocks::block_at` meets its contract. The invariant: the place that is still to be reached, among the blocks ahead, gives the block. Assumes
 -- nothing.
-use Prim.Native.Nat.{◌-◌}
 use native.Mathlib.Omega.{arith}
 use borrow.Author.Rules.{rules}
 use Rattle.room.proofs.Find.{reaching-first, reaching-on, reaching-past, reaching-here, reaching-none}

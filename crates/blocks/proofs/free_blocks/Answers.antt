@@ -1,5 +1,4 @@
 -- `blocks::free_blocks` meets its contract. The invariant: what is left to free, in the table as it is, gives the table promised. Assumes nothing.
-use Prim.Native.Nat.{◌-◌}
 use native.Mathlib.Omega.{arith}
 use Rattle.room.proofs.Given.{freeing-first, freeing-on, freeing-all}
 use Rattle.blocks.proofs.free_blocks.Goals as goal

@@ -1,5 +1,4 @@
 -- `blocks::move_blocks` meets its contract. The invariant: what is left to move, from the table as it is, gives the table promised. Assumes nothing.
-use Prim.Native.Nat.{◌-◌}
 use native.Mathlib.Omega.{arith}
 use Rattle.room.proofs.Given.{moving-first, moving-on, moving-past, moving-none, moving-all}
 use Rattle.blocks.proofs.move_blocks.Goals as goal
