@@ -5,7 +5,6 @@ use mathlib.Core.List.{List, [], ◌++◌}
 use Prim.Native.Nat.{ℕ, ◌+◌, ◌-◌, ◌≤◌, ◌<◌}
 use native.Mathlib.Omega.{arith}
 use borrow.Author.Tests.{lt-ltb, le-ltb}
-use lib.Dec.{ltb}
 use lib.ListN.{length, take, drop, replicate, length-append, length-drop, length-replicate}
 use lib.Seq.{take_at, drop-append-add, take-append-add}
 use Rattle.octets.specs.Number.{part}
@@ -15,8 +14,8 @@ use Rattle.octets.proofs.Put.{put-parts, put-put, put_whole}
 use Rattle.frame.specs.Header.{marker}
 use Rattle.stream.specs.declared.Hunter.{Hunter}
 use Rattle.stream.specs.Stream.{righted}
-use Rattle.stream.specs.Hunter.{held, holding, hunt_gives, HuntOutcome}
-use Rattle.stream.proofs.Sounding.{waiting-holding, octets-holding}
+use Rattle.stream.specs.Hunter.{held, holding, hunt_gives}
+use Rattle.stream.proofs.Sounding.{waiting-holding}
 use Rattle.hunter.specs.Contract.{filling, filled, Settled}
 
 -- octets stored behind w, in a buffer of w and z

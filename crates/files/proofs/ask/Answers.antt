@@ -9,7 +9,7 @@ use Rattle.station.proofs.Asking.{asked-unsound, asked-high, asked-free, asked-c
 use Rattle.files.proofs.ask.Goals as goal
 use Rattle.files.proofs.ask.Goals.{Else-not-is_sound}
 
-sound : (e : Else-not-is_sound) → is_sound e.args.t1 ≡ true
+sound : (e : Else-not-is_sound) → is_sound e.args.s ≡ true
 sound e = granted e.is_sound.ensures e.if-not-is_sound.false-raw
 
 pub returns-then-not-is_sound : goal.returns-then-not-is_sound

@@ -50,7 +50,7 @@ returns-then-buffer-size c = past_end _ _ _ _ _ (omega arith) (omega arith)
 
 pub copy_out-requires : goal.copy_out-requires
 copy_out-requires c =
-    let s = c.args.t1 in
+    let s = c.args.s in
     let z : Sized s =
     record {
       watched = search (rules, unmap);

@@ -34,7 +34,7 @@ module _ (s : Station) (store : List ℕ) (k : ℕ) where
 
 pub copy_out-requires : goal.copy_out-requires
 copy_out-requires c =
-    let s = c.args.t1 in
+    let s = c.args.s in
     let z : Sized s =
     record {
       watched = search (rules, unmap);

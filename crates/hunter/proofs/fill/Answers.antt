@@ -1,15 +1,10 @@
 use mathlib.Core.Path.{◌≡◌, sym, ap}
-use Prim.Native.Nat.{◌-◌}
 use native.Mathlib.Omega.{arith}
 use borrow.Author.Rules.{rules}
 use lib.ListN.{length, length-drop}
 use lib.Seq.{length-take-le}
 use Rattle.octets.proofs.Lists.{whole-rest}
 use Rattle.hunter.proofs.Filling.{fill-short, fill-whole}
-use Rattle.hunter.proofs.fill.Reads as reads
-use Rattle.hunter.proofs.fill.Lts as lts
-use Rattle.hunter.proofs.none_found.Reads as none-found-reads
-use Rattle.octets.proofs.copy.Reads as copy-reads
 use Rattle.hunter.proofs.fill.Goals as goal
 
 pub copy-requires : goal.copy-requires

@@ -1,5 +1,4 @@
 use mathlib.Core.Path.{◌≡◌, sym, ◌∙◌}
-use Prim.Native.Nat.{◌-◌}
 use borrow.Author.Rules.{rules}
 use borrow.Author.Tests.{not-true, not-false}
 use lib.ListN.{length}
@@ -7,10 +6,6 @@ use Rattle.octets.proofs.Decide.{told-true}
 use Rattle.stream.specs.Hunter.{Sound}
 use Rattle.stream.proofs.Sounding.{decides-sound}
 use Rattle.stream.proofs.Feeding.{roomless, unsound, hunted-sound}
-use Rattle.hunter.proofs.hunt.Reads as reads
-use Rattle.hunter.proofs.hunt.Lts as lts
-use Rattle.hunter.proofs.search.Reads as search-reads
-use Rattle.hunter.proofs.is_sound.Reads as is-sound-reads
 use Rattle.hunter.proofs.hunt.Goals as goal
 use Rattle.hunter.proofs.hunt.Goals.{Else-not-is_sound, Start}
 

@@ -1,16 +1,10 @@
 use mathlib.Core.Path.{◌≡◌, sym, ◌∙◌, ap}
-use Prim.Native.Nat.{◌-◌}
 use native.Mathlib.Omega.{arith}
 use borrow.Author.Rules.{rules}
 use lib.ListN.{length}
 use Rattle.stream.specs.Seek.{near}
 use borrow.Author.Tests.{not-true, not-false}
 use Rattle.hunter.proofs.Judging.{unbegun, over-three, over-size, few-waiting, no-marker, marker-waits}
-use Rattle.hunter.proofs.is_sound.Reads as reads
-use Rattle.hunter.proofs.is_sound.Lts as lts
-use Rattle.zeros.proofs.all_zero.Reads as all-zero-reads
-use Rattle.octets.proofs.u32_at.Reads as u32-at-reads
-use Rattle.stream.proofs.is_near.Reads as is-near-reads
 use Rattle.hunter.proofs.is_sound.Goals as goal
 
 pub returns-then-not-h : goal.returns-then-not-h

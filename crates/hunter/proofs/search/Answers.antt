@@ -3,12 +3,6 @@ use native.Mathlib.Omega.{arith}
 use borrow.Author.Rules.{rules}
 use lib.ListN.{length}
 use Rattle.hunter.proofs.Hunting.{first-settled, first-hunt, few-hunt}
-use Rattle.hunter.proofs.search.Reads as reads
-use Rattle.hunter.proofs.search.Lts as lts
-use Rattle.hunter.proofs.fill.Reads as fill-reads
-use Rattle.hunter.proofs.none_found.Reads as none-found-reads
-use Rattle.hunter.proofs.slide.Reads as slide-reads
-use Rattle.octets.proofs.copy.Reads as copy-reads
 use Rattle.hunter.proofs.search.Goals as goal
 use Rattle.hunter.proofs.search.Goals.{Start}
 

@@ -8,14 +8,6 @@ use lib.Seq.{length-take-le}
 use mir.Syntax.{w8}
 use mir.Val.{Fits}
 use Rattle.hunter.proofs.Hunting.{sought-at, sought-nowhere, Started}
-use Rattle.hunter.proofs.slide.Reads as reads
-use Rattle.hunter.proofs.slide.Lts as lts
-use Rattle.hunter.proofs.fill.Reads as fill-reads
-use Rattle.hunter.proofs.none_found.Reads as none-found-reads
-use Rattle.hunter.proofs.spread.Reads as spread-reads
-use Rattle.octets.proofs.copy.Reads as copy-reads
-use Rattle.octets.proofs.u24_at.Reads as u24-at-reads
-use Rattle.stream.proofs.seek.Reads as seek-reads
 use Rattle.hunter.proofs.slide.Goals as goal
 use Rattle.hunter.proofs.slide.Goals.{After-seek-s, In-At, Start}
 
@@ -39,7 +31,7 @@ found : (c : In-At)
 found c =
     let begun = start (goal.at.In-At c).After-seek-s in
     let a = begun.args in
-    let p = begun.pre in
+    let p = begun.requires in
     sought-at a.h p.sound a.portion.now a.buffer.now p.room p.few p.enough (octet (goal.at.In-At c).After-seek-s) (λ i. (fits begun i).fits) _ _ _
     c.copy.ensures c.u24_at-three.ensures.0 c.seek-s.ensures _ _ c.in-At.is
 
@@ -66,7 +58,7 @@ pub returns-in-Nowhere : goal.returns-in-Nowhere
 returns-in-Nowhere c =
     let begun = start (goal.at.returns-in-Nowhere c).After-seek-s in
     let a = begun.args in
-    let p = begun.pre in
+    let p = begun.requires in
     rw (c.none_found.ensures, c.spread-first-in-Nowhere.ensures)
     (sought-nowhere a.h p.sound a.portion.now a.buffer.now p.room p.few p.enough (octet (goal.at.returns-in-Nowhere c).After-seek-s) (λ i. (fits begun i).fits) _ _ _
     c.copy.ensures c.u24_at-three.ensures.0 c.seek-s.ensures _ c.in-Nowhere.is)

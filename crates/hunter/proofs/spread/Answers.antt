@@ -1,7 +1,5 @@
 use mathlib.Core.Path.{refl}
 use Rattle.hunter.specs.Contract.{spread_of}
-use Rattle.hunter.proofs.spread.Reads as reads
-use Rattle.hunter.proofs.spread.Lts as lts
 use Rattle.hunter.proofs.spread.Goals as goal
 
 pub returns : goal.returns
