@@ -1,4 +1,5 @@
 -- `readout::navigation` meets its contract. Assumes nothing.
+use native.Mathlib.Omega.{arith}
 use borrow.Author.Rules.{rules}
 use Rattle.text.proofs.Following.{nothing, behind}
 use Rattle.readout.specs.Readout.{navigation_text}
@@ -13,10 +14,15 @@ pub returns : goal.returns
 unfolding navigation_text
 returns c = (
   search rules,
-  let fits = c.type_inv.x in
+  let x = c.in-There.x in
       let first = behind c.named-first.ensures.1 c.signed_pair-third.ensures.1 in
       let pairs =
-      rw (same-field _ fits.0.1, same-field _ fits.1.0.1, same-field _ fits.1.1.0.1, same-field _ fits.1.1.1.0.1)
+      rw (
+        same-field x.cfac (omega arith),
+        same-field x.lfac (omega arith),
+        same-field x.coff (omega arith),
+        same-field x.loff (omega arith),
+      )
       at (behind first c.signed_pair.ensures.1) in
       rw c.in-There.is pairs,
 )
