@@ -19,8 +19,8 @@ sized c =
 pub returns-in-Denied : goal.returns-in-Denied
 returns-in-Denied c =
     let e = c.end_file-ended.ensures in
-    tells_as (over-denied _ _ _ _ _ _ e.0 c.in-Denied.is)
-    (tells-then (at 6 _ _) e.1.0 e.1.1 (tells-one _ _ _ c.emit-last.ensures.value c.emit-last.ensures.list_after))
+    tells_as (over-denied _ _ _ _ _ _ e.slots_after c.in-Denied.is)
+    (tells-then (at 6 _ _) e.events_value.0 e.events_value.1 (tells-one _ _ _ c.emit-last.ensures.value c.emit-last.ensures.list_after))
 
 pub open_at-requires : goal.open_at-requires
 open_at-requires c =
@@ -32,4 +32,4 @@ open_at-requires c =
 pub returns-in-Granted : goal.returns-in-Granted
 returns-in-Granted c =
     let e = c.end_file-ended.ensures in
-    tells_as (over-granted _ _ _ _ _ _ e.0 c.in-Granted.is) (tells-then (at 6 _ _) e.1.0 e.1.1 c.open_at.ensures)
+    tells_as (over-granted _ _ _ _ _ _ e.slots_after c.in-Granted.is) (tells-then (at 6 _ _) e.events_value.0 e.events_value.1 c.open_at.ensures)

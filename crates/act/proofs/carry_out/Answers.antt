@@ -88,7 +88,7 @@ pub returns-in-GoesOn : goal.returns-in-GoesOn
 returns-in-GoesOn c =
     let e = c.go_on.ensures in
     tells_as (does (goal.at.returns-in-GoesOn c).Start c.in-GoesOn.is)
-    (tells-goes-on _ _ _ _ _ _ _ _ e.0 e.1.0 e.1.1)
+    (tells-goes-on _ _ _ _ _ _ _ _ e.slots_value e.store_after e.events_value)
 
 pub end_file-requires : goal.end_file-requires
 end_file-requires c =

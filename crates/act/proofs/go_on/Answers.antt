@@ -15,5 +15,5 @@ returns c =
     record {
       slots_value = refl;
       store_after = w;
-      events_value = (e.0, e.1 ∙ rw c.next_event.ensures);
+      events_value = (e.value, e.list_after ∙ rw c.next_event.ensures);
     }

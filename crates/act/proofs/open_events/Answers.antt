@@ -6,9 +6,11 @@ pub returns-then-flags-eq-WHOLE : goal.returns-then-flags-eq-WHOLE
 returns-then-flags-eq-WHOLE c =
     let m = c.emit-m.ensures in
     let l = c.emit.ensures in
-    told-whole _ _ _ _ _ m.0 m.1 c.if-flags-eq-WHOLE.true l.0 l.1
+    let told = told-whole _ _ _ _ _ m.value m.list_after c.if-flags-eq-WHOLE.true l.value l.list_after in
+    record { value = told.0; list_after = told.1 }
 
 pub returns : goal.returns
 returns c =
     let m = c.emit-m.ensures in
-    told-first _ _ _ _ _ m.0 m.1 c.if-flags-eq-WHOLE.false
+    let told = told-first _ _ _ _ _ m.value m.list_after c.if-flags-eq-WHOLE.false in
+    record { value = told.0; list_after = told.1 }
