@@ -4,5 +4,5 @@ use Rattle.grow.proofs.grow_images.Goals as goal
 
 pub returns : goal.returns
 returns c =
-    rw (image-part c.args.image c.args.more c.write_image.new.0 c.requires.0 c.write_image.ensures)
+    rw (image-part c.args.image c.args.more c.write_image.new.dst c.requires.0 c.write_image.ensures)
     at c.grow_section.ensures

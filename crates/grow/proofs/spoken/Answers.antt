@@ -1,5 +1,4 @@
 -- `grow::spoken` meets its contract: the loop counts each channel that has files. Assumes nothing.
-use Prim.Native.Nat.{◌-◌}
 use native.Mathlib.Omega.{arith}
 use Rattle.grow.proofs.Writing.{speaking, speak-skip, speak-more, speak-end}
 use Rattle.grow.proofs.spoken.Goals as goal

@@ -1,6 +1,5 @@
 -- `grow::write_counts` meets its contract: the loop writes each channel that has files. Assumes nothing.
 use mathlib.Core.Path.{refl}
-use Prim.Native.Nat.{◌-◌}
 use native.Mathlib.Omega.{arith}
 use Rattle.grow.proofs.Writing.{noting, note-skip, note-room, note-more, note-end}
 use Rattle.grow.proofs.write_counts.Goals as goal
