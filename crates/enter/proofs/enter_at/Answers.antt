@@ -7,26 +7,23 @@ use Rattle.catalogue.specs.Reading.{Ready}
 use Rattle.catalogue.specs.Entering.{entered}
 use Rattle.enter.proofs.Settling.{few-at, files-ready, is-ready, is-size, is-short, is-entered}
 use Rattle.enter.proofs.enter_at.Goals as goal
-use Rattle.enter.proofs.enter_at.Goals.{After-counts_with-counts, After-size_with-size, Start}
-
-abbrev start : After-counts_with-counts → Start
-start c = (goal.at.After-counts_with-counts c).Start
+use Rattle.enter.proofs.enter_at.Goals.{After-counts_with-counts, After-size_with-size}
 
 -- the counts make it ready
-ready : (c : After-counts_with-counts) → let a = (start c).before.args in Ready a.buffer.now a.used a.at a.e c.Counts-with.result
+ready : (c : After-counts_with-counts) → let a = c.args in Ready a.buffer.now a.used a.at a.e c.counts_with-counts.result
 ready c =
-    let p = (start c).before.requires in
-    is-ready p.0 (start c).before.args.e p.1 p.2 _ (sub-zero _) c.Counts-with.ensures
+    let p = c.requires in
+    is-ready p.0 c.args.e p.1 p.2 _ (sub-zero _) c.counts_with-counts.ensures
 
-sized : (c : After-size_with-size) → let a = (start (goal.at.After-size_with-size c).After-counts_with-counts).before.args in c.size_with-size.result ≡ length (entered (take a.used a.buffer.now) a.e)
-sized c = is-size (ready (goal.at.After-size_with-size c).After-counts_with-counts) (λ i. ((start (goal.at.After-size_with-size c).After-counts_with-counts).slice-known.given i).fits) c.size_with-size.ensures
+sized : (c : After-size_with-size) → let a = c.args in c.size_with-size.result ≡ length (entered (take a.used a.buffer.now) a.e)
+sized c = is-size (ready (goal.at.After-size_with-size c).After-counts_with-counts) (λ i. (c.slice_known-1.given i).fits) c.size_with-size.ensures
 
 pub counts_with-counts-requires : goal.counts_with-counts-requires
 counts_with-counts-requires c =
-    files-ready c.requires.0 (λ i. (c.type_inv.buffer i).fits) c.args.e c.requires.2 _ (sub-zero _)
+    files-ready c.requires.0 (λ i. (c.slice_known-1.given i).fits) c.args.e c.requires.2 _ (sub-zero _)
 
 pub size_with-size-requires : goal.size_with-size-requires
-size_with-size-requires c = (few-at (start c).before.requires.0 (λ i. ((start c).slice-known.given i).fits)).1
+size_with-size-requires c = (few-at c.requires.0 (λ i. (c.slice_known-1.given i).fits)).1
 
 pub returns-then-buffer-size : goal.returns-then-buffer-size
 returns-then-buffer-size c = is-short (ready (goal.at.returns-then-buffer-size c).After-counts_with-counts) (sized (goal.at.returns-then-buffer-size c).After-size_with-size) (omega arith)

@@ -1,5 +1,4 @@
 -- `enter::settle_at` meets its contract: 30, then 31. Assumes nothing.
--- not 1,024, so fewer
 use Prim.Native.Nat.{◌<◌}
 use native.Mathlib.Omega.{arith}
 use Rattle.octets.proofs.Tests.{denied, granted}
@@ -7,6 +6,7 @@ use Rattle.enter.proofs.Settling.{is-full, is-bad, few-at}
 use Rattle.enter.proofs.settle_at.Goals as goal
 use Rattle.enter.proofs.settle_at.Goals.{Else-at-eq-MOST}
 
+-- not 1,024, so fewer
 few : (c : Else-at-eq-MOST) → c.args.at.files < 1024
 few c = omega (arith, few-at c.requires (λ i. (c.type_inv.b i).fits))
 
