@@ -5,7 +5,7 @@ use Rattle.walk.proofs.settle.Goals as goal
 pub returns-then-bad : goal.returns-then-bad
 returns-then-bad c =
     let told = c.emit-m.ensures in
-    settles-bad c.if-bad.true c.blank.ensures told.0 told.1
+    settles-bad c.if-bad.true c.blank.ensures told.value told.list_after
 
 pub returns : goal.returns
 returns c =

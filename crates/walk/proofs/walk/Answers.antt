@@ -1,7 +1,6 @@
 -- `walk::walk` judges packets one after the other: each is decided and then done. The loop's invariant says that what is still to be done
 -- gives what was wanted; the measure is what is left of the zone. Assumes nothing.
 use mathlib.Core.Path.{sym, ◌∙◌}
-use Prim.Native.Nat.{◌-◌}
 use native.Mathlib.Omega.{arith}
 use borrow.Author.Rules.{rules}
 use lib.ListN.{drop}
@@ -28,16 +27,16 @@ turn z = (goal.at.After-size z).At-loop-bad
 abbrev WalkingIn : After-size → Type 0
 WalkingIn z =
     let i = (start z).args in
-    let l = (turn z).loop in
+    let l = (turn z).loop-bad in
     Walking i.channel (station_of i.head i.owner.now i.slots) i.zone.now i.from i.store.now i.n i.list.now
     (station_of i.head l.owner l.kept) l.store l.list l.events l.at
 
 abbrev walking : (z : After-size) → WalkingIn z
-walking z = (turn z).loop.invariant
+walking z = (turn z).loop-bad.invariant
 
 -- and that packet
 here : (z : After-size)
-    → Taken (drop (turn z).loop.at (start z).args.zone.now) z.in-Take.h z.size.result
+    → Taken (drop (turn z).loop-bad.at (start z).args.zone.now) z.in-Take.h z.size.result
 here z = taken (walking z) z.next_at-next.ensures z.in-Take.is z.size.ensures
 
 pub loop-bad-init : goal.loop-bad-init
@@ -83,12 +82,13 @@ pub loop-bad-preserved-in-Says : goal.loop-bad-preserved-in-Says
 loop-bad-preserved-in-Says c =
     let told = c.emit-events.ensures in
     turns (walking (goal.at.loop-bad-preserved-in-Says c).After-size) (here (goal.at.loop-bad-preserved-in-Says c).After-size)
-    (says (walking (goal.at.loop-bad-preserved-in-Says c).After-size) (here (goal.at.loop-bad-preserved-in-Says c).After-size) c.rule-ruling.ensures c.in-Says.is told.0 told.1)
+    (says (walking (goal.at.loop-bad-preserved-in-Says c).After-size) (here (goal.at.loop-bad-preserved-in-Says c).After-size) c.rule-ruling.ensures c.in-Says.is told.value told.list_after)
 
 pub carry_out-told-requires : goal.carry_out-told-requires
 carry_out-told-requires c =
     let w = walking (goal.at.carry_out-told-requires c).After-size in
-    (ready w (here (goal.at.carry_out-told-requires c).After-size), (packet-here w (here (goal.at.carry_out-told-requires c).After-size), header-here w (here (goal.at.carry_out-told-requires c).After-size), sym c.rule-ruling.ensures ∙ c.in-Does.is))
+    let h = here (goal.at.carry_out-told-requires c).After-size in
+    record { ready = ready w h; whole = (packet-here w h, header-here w h, sym c.rule-ruling.ensures ∙ c.in-Does.is) }
 
 pub loop-bad-smaller : goal.loop-bad-smaller
 loop-bad-smaller c =

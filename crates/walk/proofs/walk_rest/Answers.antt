@@ -14,7 +14,7 @@ walk-w-requires c =
 pub settle-left-requires : goal.settle-left-requires
 settle-left-requires c =
     let i = start (goal.at.settle-left-requires c).After-walk-w in
-    settling i.pre.0 i.pre.1.0 i.pre.1.1 c.walk-w.ensures
+    settling i.requires.lent i.requires.from_bound.0 i.requires.from_bound.1 c.walk-w.ensures
 
 pub returns : goal.returns
 returns c =
