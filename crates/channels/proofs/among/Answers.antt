@@ -1,7 +1,6 @@
 -- `among` meets its contract. The loop's invariant: the channel is named from place from on exactly if it is named from place i on. The measure
 -- is what is left of the list. Assumes nothing.
 use mathlib.Core.Path.{refl}
-use Prim.Native.Nat.{◌-◌}
 use native.Mathlib.Omega.{arith}
 use borrow.Author.Tests.{eq-eqb, ne_eqb}
 use Rattle.state.specs.Decision.{among}

@@ -1,7 +1,6 @@
 -- `desks_hold` meets its contract. The loop's invariant: the first n desks hold what they may exactly if those from number i on do. The
 -- measure is what is left of the n. Assumes nothing.
 use mathlib.Core.Path.{refl}
-use Prim.Native.Nat.{◌-◌}
 use native.Mathlib.Omega.{arith}
 use borrow.Author.Rules.{rules}
 use Rattle.octets.specs.Each.{each}

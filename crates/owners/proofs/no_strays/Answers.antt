@@ -1,7 +1,6 @@
 -- `no_strays` meets its contract. The invariant: the tally from 33 on is blank exactly if the "or" so far is 0 and what is left is blank. The
 -- measure is what is left of the 256. Assumes nothing.
 use mathlib.Core.Path.{refl}
-use Prim.Native.Nat.{◌-◌}
 use native.Mathlib.Omega.{arith}
 use borrow.Author.Rules.{rules}
 use Rattle.octets.proofs.Zero.{gather-more, gather-all}

@@ -1,6 +1,6 @@
 -- `tally_eights` meets its contract. The loop's invariant: the tally is right for the first b blocks. The measure is what is left of the
 -- blocks. Assumes nothing.
-use Prim.Native.Nat.{◌+◌, ◌-◌}
+use Prim.Native.Nat.{◌+◌}
 use native.Mathlib.Omega.{arith}
 use borrow.Author.Rules.{rules}
 use Rattle.owners.proofs.Counts.{tallied-at}

@@ -1,7 +1,6 @@
 -- `tally_owners` meets its contract. The loop's invariant: the tally is right for the first b blocks. The measure is what is left of the
 -- blocks. Assumes nothing.
 use mathlib.Core.Path.{◌≡◌}
-use Prim.Native.Nat.{◌-◌}
 use native.Mathlib.Omega.{arith}
 use borrow.Author.Rules.{rules}
 use Rattle.owners.proofs.Counts.{tallied-none}

@@ -1,6 +1,6 @@
 -- `pages::copy_out` meets its contract. The invariant: what is left to copy, put behind what was copied, gives the buffer promised; and the
 -- blocks ahead have the octets that are still wanted, so that there is a next block. Assumes nothing.
-use Prim.Native.Nat.{◌-◌, ◌<◌}
+use Prim.Native.Nat.{◌<◌}
 use native.Mathlib.Omega.{arith}
 use Rattle.pages.proofs.Copying.{copying-first, copying-low, copying-past, copying-over, copying-on, copying-all}
 use Rattle.pages.proofs.copy_out.Goals as goal

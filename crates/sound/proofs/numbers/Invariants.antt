@@ -3,7 +3,7 @@
 -- a list that is filled with what f makes of another
 use mathlib.Core.Path.{◌≡◌}
 use mathlib.Core.List.{◌++◌, map}
-use Prim.Native.Nat.{◌+◌, ◌-◌, ◌≤◌}
+use Prim.Native.Nat.{◌-◌, ◌≤◌}
 use lib.ListN.{length, take, drop}
 use Rattle.state.specs.Slots.{number}
 use Rattle.sound.proofs.numbers.Given as goal

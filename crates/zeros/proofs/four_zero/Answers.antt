@@ -1,7 +1,6 @@
 -- `four_zero` meets its contract. The invariant: the stretches are blank exactly if the "or" so far is 0 and what is left of each is blank.
 -- The measure is what is left of the first. Assumes nothing.
 use mathlib.Core.Path.{refl}
-use Prim.Native.Nat.{◌-◌}
 use native.Mathlib.Omega.{arith}
 use Rattle.octets.proofs.Zero.{four-more, four-all}
 use Rattle.zeros.proofs.four_zero.Goals as goal

@@ -1,6 +1,5 @@
 -- `zeros::run_zero` meets its contract. The invariant: the stretch is blank exactly if the "or" so far is 0 and what is left is blank. Assumes nothing.
 use mathlib.Core.Path.{refl}
-use Prim.Native.Nat.{◌-◌}
 use native.Mathlib.Omega.{arith}
 use Rattle.octets.proofs.Zero.{gather-more, gather-all}
 use Rattle.zeros.proofs.run_zero.Goals as goal
