@@ -1,4 +1,5 @@
 -- `vectors::answers::answer_to` meets its contract. Assumes nothing.
+use borrow.Author.Rules.{rules}
 use borrow.Author.Tests.{ne_eqb}
 use Rattle.vectors.specs.Answers.{answer_to}
 use Rattle.vectors.proofs.answers.answer_to.Goals as goal
@@ -41,17 +42,4 @@ returns-in-82 c = rw c.in-82.is c.numbered_answer.ensures
 
 pub returns-in_default : goal.returns-in_default
 unfolding answer_to
-returns-in_default c =
-    let others = c.in_default.rest in
-    rw (
-      ne_eqb _ _ others.0.0.0.0.0.0.0.0.1,
-      ne_eqb _ _ others.0.0.0.0.0.0.0.1,
-      ne_eqb _ _ others.0.0.0.0.0.0.1,
-      ne_eqb _ _ others.0.0.0.0.0.1,
-      ne_eqb _ _ others.0.0.0.0.1,
-      ne_eqb _ _ others.0.0.0.1,
-      ne_eqb _ _ others.0.0.1,
-      ne_eqb _ _ others.0.1,
-      ne_eqb _ _ others.1,
-    )
-    c.refusal.ensures
+returns-in_default c = search (rules, ne_eqb)

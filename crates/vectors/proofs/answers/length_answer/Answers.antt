@@ -1,7 +1,7 @@
 -- `vectors::answers::length_answer` meets its contract. Assumes nothing.
+use mathlib.Core.Path.{sym, ◌∙◌}
 use borrow.Author.Rules.{rules}
 use borrow.Author.Tests.{eq-eqb, ne_eqb}
-use Rattle.octets.proofs.Tests.{denied, granted}
 use Rattle.text.proofs.Following.{behind}
 use Rattle.vectors.specs.Answers.{length_text}
 use Rattle.vectors.proofs.answers.length_answer.Goals as goal
@@ -13,7 +13,7 @@ pub returns-then-not-good_length : goal.returns-then-not-good_length
 unfolding length_text
 returns-then-not-good_length c = (
   search rules,
-  rw (eq-eqb _ _ c.if-q-ne8.false, ← c.u64_at-bits.ensures, denied c.good_length.ensures c.if-not-good_length.true-raw)
+  rw (eq-eqb _ _ c.if-q-ne8.false, ← c.u64_at-bits.ensures, sym c.good_length.ensures ∙ c.if-not-good_length.true)
       c.word.ensures,
 )
 
@@ -21,7 +21,7 @@ pub returns : goal.returns
 unfolding length_text
 returns c = (
   search rules,
-  rw (eq-eqb _ _ c.if-q-ne8.false, ← c.u64_at-bits.ensures, granted c.good_length.ensures c.if-not-good_length.false-raw)
+  rw (eq-eqb _ _ c.if-q-ne8.false, ← c.u64_at-bits.ensures, sym c.good_length.ensures ∙ c.if-not-good_length.false)
       (rw (c.need.ensures, c.rest.ensures) at
       (behind c.with_number-second.ensures.1 c.number.ensures.1)),
 )

@@ -7,7 +7,10 @@ use Rattle.vectors.proofs.Decoding.{odd-none, begin, end, high-none, low-none, m
 use Rattle.vectors.proofs.digits.decode.Goals as goal
 
 pub returns-then-digits-ne0 : goal.returns-then-digits-ne0
-returns-then-digits-ne0 c = (omega arith, sym (odd-none c.args.digits.now (omega arith)))
+returns-then-digits-ne0 c = record {
+  result_bound = omega arith;
+  asked_after = sym (odd-none c.args.digits.now (omega arith));
+}
 
 pub loop-i-init : goal.loop-i-init
 loop-i-init c = (omega arith, refl, begin _ _)
@@ -15,12 +18,18 @@ loop-i-init c = (omega arith, refl, begin _ _)
 pub returns-then-high-gt15 : goal.returns-then-high-gt15
 returns-then-high-gt15 c =
     let inv = c.loop-i.invariant in
-    (omega arith, high-none inv.2 (omega arith) (omega arith))
+    record {
+      result_bound = omega arith;
+      asked_after = high-none inv.2 (omega arith) (omega arith);
+    }
 
 pub returns-then-low-gt15 : goal.returns-then-low-gt15
 returns-then-low-gt15 c =
     let inv = c.loop-i.invariant in
-    (omega arith, low-none inv.2 (omega arith) (omega arith) (omega arith))
+    record {
+      result_bound = omega arith;
+      asked_after = low-none inv.2 (omega arith) (omega arith) (omega arith);
+    }
 
 pub loop-i-preserved : goal.loop-i-preserved
 loop-i-preserved c =
