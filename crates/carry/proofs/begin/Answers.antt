@@ -7,7 +7,7 @@ use Rattle.carry.proofs.begin.Goals as goal
 pub returns-then-is_gap : goal.returns-then-is_gap
 returns-then-is_gap c =
     let told = c.emit-n.ensures in
-    (omega (arith, c.start_at-from.ensures), by-gap (sym c.is_gap.ensures ∙ c.if-is_gap.true) refl told.0 told.1)
+    (omega (arith, c.start_at-from.ensures), by-gap (sym c.is_gap.ensures ∙ c.if-is_gap.true) refl told.value told.list_after)
 
 pub returns-then-d-eq0 : goal.returns-then-d-eq0
 returns-then-d-eq0 c =
@@ -21,7 +21,7 @@ returns-in-Dropped c =
     let told = c.emit-n-in-Dropped.ensures in (
       omega (arith, c.start_at-from.ensures),
       by-drop (sym c.is_gap.ensures ∙ c.if-is_gap.false) (omega arith) c.join-sequel.ensures.desks_after
-          (sym c.join-sequel.ensures.value ∙ c.in-Dropped.is) told.0 told.1,
+          (sym c.join-sequel.ensures.value ∙ c.in-Dropped.is) told.value told.list_after,
     )
 
 pub returns-in-CarriedOn : goal.returns-in-CarriedOn

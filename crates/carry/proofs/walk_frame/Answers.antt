@@ -30,8 +30,8 @@ start b = (goal.at.After-begin-opening b).Start
 abbrev BeginsBy : After-begin-opening → Opening → Type 0
 BeginsBy b x =
     let i = (start b).args in
-    Begins (desk_at (station (start b)) i.a.desk) i.a i.zone.now i.desks.now i.list.now x b.begin-opening.new.1.1.1.0
-    b.begin-opening.new.1.1.1.1.0
+    Begins (desk_at (station (start b)) i.a.desk) i.a i.zone.now i.desks.now i.list.now x b.begin-opening.new.desks
+    b.begin-opening.new.list
 
 begins : (b : After-begin-opening) → {x : Opening} → b.begin-opening.result ≡ x → BeginsBy b x
 begins b e = rw e at b.begin-opening.ensures
@@ -51,66 +51,69 @@ pub walk_rest-requires : goal.walk_rest-requires
 walk_rest-requires c =
     let i = start (goal.at.walk_rest-requires c).After-begin-opening in
     let o = begins (goal.at.walk_rest-requires c).After-begin-opening c.in-Reads.is in record {
-      lent = afresh-lent i.pre.0 i.pre.1 o.1;
-      from_bound = (omega (arith, o.0, i.pre.0.start), omega (arith, afresh-few i.pre.0 i.pre.1 o.1));
+      lent = afresh-lent i.requires.lent i.requires.desks_sound o.1;
+      from_bound = (omega (arith, o.0, i.requires.lent.start), omega (arith, afresh-few i.requires.lent i.requires.desks_sound o.1));
     }
 
 pub returns-in-Reads : goal.returns-in-Reads
 returns-in-Reads c =
     let i = start (goal.at.returns-in-Reads c).After-begin-opening in
     let o = begins (goal.at.returns-in-Reads c).After-begin-opening c.in-Reads.is in
-    afresh-tells i.pre.0 i.pre.1 o.0 o.1 c.walk_rest.ensures
+    afresh-tells i.requires.lent i.requires.desks_sound o.0 o.1 c.walk_rest.ensures
 
 pub overflow_sub-lacked : goal.overflow_sub-lacked
 overflow_sub-lacked c =
     let i = start (begun (goal.at.overflow_sub-lacked c).In-Carries) in
-    omega (arith, onward-lacking i.pre.0 i.pre.1 (onwards (goal.at.overflow_sub-lacked c).In-Carries))
+    omega (arith, onward-lacking i.requires.lent i.requires.desks_sound (onwards (goal.at.overflow_sub-lacked c).In-Carries))
 
 pub overflow_cast-all : goal.overflow_cast-all
 overflow_cast-all c =
     let i = start (begun (goal.at.overflow_cast-all c).In-Carries) in
-    omega (arith, onward-lacking i.pre.0 i.pre.1 (onwards (goal.at.overflow_cast-all c).In-Carries), onward-most i.pre.0 i.pre.1 (onwards (goal.at.overflow_cast-all c).In-Carries))
+    omega (arith, onward-lacking i.requires.lent i.requires.desks_sound (onwards (goal.at.overflow_cast-all c).In-Carries), onward-most i.requires.lent i.requires.desks_sound (onwards (goal.at.overflow_cast-all c).In-Carries))
 
 pub returns-then-lacked-gt-ZONE : goal.returns-then-lacked-gt-ZONE
 returns-then-lacked-gt-ZONE c =
     let i = start (begun (goal.at.returns-then-lacked-gt-ZONE c).In-Carries) in
-    rw c.leave.ensures (onward-longer i.pre.0 i.pre.1 (onwards (goal.at.returns-then-lacked-gt-ZONE c).In-Carries) c.if-lacked-gt-ZONE.true)
+    rw c.leave.ensures (onward-longer i.requires.lent i.requires.desks_sound (onwards (goal.at.returns-then-lacked-gt-ZONE c).In-Carries) c.if-lacked-gt-ZONE.true)
 
 pub slice_bounds-walk-end : goal.slice_bounds-walk-end
 slice_bounds-walk-end c =
-    let i = start (begun (goal.at.slice_bounds-walk-end c).In-Carries-2) in
-    let O = onwards (goal.at.slice_bounds-walk-end c).In-Carries-2 in
+    let i = start (begun (goal.at.slice_bounds-walk-end c).In-Carries) in
+    let O = onwards (goal.at.slice_bounds-walk-end c).In-Carries in
     omega (
       arith,
-      onward-lacking i.pre.0 i.pre.1 O,
-      onward-most i.pre.0 i.pre.1 O,
-      desk-fits i.pre.0,
-      onward-length i.pre.0 i.pre.1 O,
+      onward-lacking i.requires.lent i.requires.desks_sound O,
+      onward-most i.requires.lent i.requires.desks_sound O,
+      desk-fits i.requires.lent,
+      onward-length i.requires.lent i.requires.desks_sound O,
     )
 
 pub walk-w-requires : goal.walk-w-requires
 walk-w-requires c =
-    let i = start (begun (goal.at.walk-w-requires c).In-Carries-2) in
-    onward-going i.pre.0 i.pre.1 (onwards (goal.at.walk-w-requires c).In-Carries-2) c.if-lacked-gt-ZONE.false
+    let i = start (begun (goal.at.walk-w-requires c).In-Carries) in
+    onward-going i.requires.lent i.requires.desks_sound (onwards (goal.at.walk-w-requires c).In-Carries) c.if-lacked-gt-ZONE.false
 
 pub walk_rest-requires-in-Carries : goal.walk_rest-requires-in-Carries
 walk_rest-requires-in-Carries c =
-    let i = start (begun (goal.at.walk_rest-requires-in-Carries c).In-Carries-2) in
+    let i = start (begun (goal.at.walk_rest-requires-in-Carries c).In-Carries) in
     let l = c.if-lacked-gt-ZONE.false in
-    let O = onwards (goal.at.walk_rest-requires-in-Carries c).In-Carries-2 in
-    (onward-lent i.pre.0 i.pre.1 O l c.walk-w.ensures (sized i), (l, onward-few i.pre.0 i.pre.1 O l c.walk-w.ensures))
+    let O = onwards (goal.at.walk_rest-requires-in-Carries c).In-Carries in
+    record {
+      lent = onward-lent i.requires.lent i.requires.desks_sound O l c.walk-w.ensures (sized i);
+      from_bound = (l, onward-few i.requires.lent i.requires.desks_sound O l c.walk-w.ensures);
+    }
 
 pub shape_of-desks-in-Carries : goal.shape_of-desks-in-Carries
 shape_of-desks-in-Carries c =
-    let i = start (begun (goal.at.shape_of-desks-in-Carries c).In-Carries-2) in
-    ap length c.walk_rest-in-Carries.ensures.desked ∙ simp length-put (onward-length i.pre.0 i.pre.1 (onwards (goal.at.shape_of-desks-in-Carries c).In-Carries-2))
+    let i = start (begun (goal.at.shape_of-desks-in-Carries c).In-Carries) in
+    ap length c.walk_rest-in-Carries.ensures.desked ∙ simp length-put (onward-length i.requires.lent i.requires.desks_sound (onwards (goal.at.shape_of-desks-in-Carries c).In-Carries))
 
 pub shape_of-list-in-Carries : goal.shape_of-list-in-Carries
 shape_of-list-in-Carries c =
     ap length c.walk_rest-in-Carries.ensures.listed
-    ∙ simp length-put (ap length c.walk-w.ensures.told.listed ∙ simp length-put (ap length (onwards (goal.at.shape_of-list-in-Carries c).In-Carries-2).none))
+    ∙ simp length-put (ap length c.walk-w.ensures.told.listed ∙ simp length-put (ap length (onwards (goal.at.shape_of-list-in-Carries c).In-Carries).none))
 
 pub returns-in-Carries : goal.returns-in-Carries
 returns-in-Carries c =
-    let i = start (begun (goal.at.returns-in-Carries c).In-Carries-2) in
-    onward-tells i.pre.0 i.pre.1 (onwards (goal.at.returns-in-Carries c).In-Carries-2) c.if-lacked-gt-ZONE.false c.walk-w.ensures c.walk_rest-in-Carries.ensures
+    let i = start (begun (goal.at.returns-in-Carries c).In-Carries) in
+    onward-tells i.requires.lent i.requires.desks_sound (onwards (goal.at.returns-in-Carries c).In-Carries) c.if-lacked-gt-ZONE.false c.walk-w.ensures c.walk_rest-in-Carries.ensures
