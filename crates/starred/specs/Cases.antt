@@ -20,13 +20,13 @@ pub data Case : Type 0 where
   L=◌N=◌ : ℕ → ℕ → Case
   L=◌last-packet◌ : ℕ → ℕ → Case
   frame-header◌version◌spacecraft◌channel◌ : List ℕ → ℕ → ℕ → ℕ → Case
-  pointer_good : ℕ → Case
+  pointer◌good : ℕ → Case
   pointer◌refused-by◌ : ℕ → ℕ → Case
-  pointer_no-start : ℕ → Case
-  count_then_follows : ℕ → ℕ → Case
-  counter_then_follows : ℕ → ℕ → Case
-  application_length_good : ℕ → ℕ → Case
-  application_length_bad : ℕ → ℕ → Case
+  pointer◌no-start : ℕ → Case
+  count◌then◌follows : ℕ → ℕ → Case
+  counter◌then◌follows : ℕ → ℕ → Case
+  application◌length◌good : ℕ → ℕ → Case
+  application◌length◌bad : ℕ → ℕ → Case
 
 unfoldable pub cases : List Case
 cases =
@@ -44,7 +44,7 @@ cases =
     -- "Pointer 883 good, 884 refused by 9, 2047 no start."
     ∷ (pointer 883 good)
     ∷ (pointer 884 refused-by 9)
-    ∷ (pointer 2047 no_start)
+    ∷ (pointer 2047 no-start)
     -- "Count 16,383 then 0 follows. Counter 16,777,215 then 0 follows."
     ∷ (count 16383 then 0 follows)
     ∷ (counter 16777215 then 0 follows)
@@ -78,7 +78,7 @@ Right (frame-header xs version v spacecraft s channel c) =
 Right (pointer p good) = pointer_meaning p ≡ Offset p
 -- of spacecraft 1, with channel 0 watched
 Right (pointer p refused-by k) = examined_header 1 (record { 0 = 0 } ∷ []) (pointing p) ≡ Refused k
-Right (pointer p no_start) = pointer_meaning p ≡ NoStart
+Right (pointer p no-start) = pointer_meaning p ≡ NoStart
 Right (count a then b follows) = count_follows (record { 0 = a }) (record { 0 = b }) ≡ true
 Right (counter a then b follows) = counter_follows (record { 0 = a }) (record { 0 = b }) ≡ true
 Right (application a length n good) =
