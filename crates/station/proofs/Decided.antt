@@ -87,7 +87,7 @@ outcome answer rs d f zero number counted =
     (λ n g.
     let some : n ≡ 0 → ⊥ = λ e. true≢false (sym (first-among g) ∙ rw e counted) in
     record {
-      one_of = rw (number n, first-among g, or-true);
+      one_of = ap (λ (m : ℕ). among m (0 ∷ numbers rs)) (number n) ∙ rw (first-among g, or-true);
       zero = (λ e. absurd (some (sym (number n) ∙ e)), λ h. absurd (first_some g h));
       done = λ e. absurd (some (sym (number n) ∙ e));
       refused = λ h. rw (number n) (refl, first-applies g);

@@ -42,30 +42,30 @@ unfoldable pub cases : List Case
 cases =
     -- "a refused set-up's state is all zero, which isn't sound"; no store has its 0 blocks and 1 to 4,096
     (any-read-from all_zero_state gives 1)
-    ∷ (let_go 0 from all_zero_state gives 2)
+    ∷ (let-go 0 from all_zero_state gives 2)
     -- "1 to 4,096 blocks"
     ∷ (any-read-from set-up 4097 gives 1)
-    ∷ (let_go 0 from set-up 4097 gives 2)
+    ∷ (let-go 0 from set-up 4097 gives 2)
     -- "1 to 8 distinct channels"
-    ∷ (let_go 0 from station 0 no_desk no_owner gives 2)
-    ∷ (let_go 0 from station 8 no_desk no_owner gives 11)
-    ∷ (let_go 0 from station 9 no_desk no_owner gives 2)
+    ∷ (let-go 0 from station 0 no_desk no_owner gives 2)
+    ∷ (let-go 0 from station 8 no_desk no_owner gives 11)
+    ∷ (let-go 0 from station 9 no_desk no_owner gives 2)
     -- "each desk holds 0 to 8,197 octets", of the channels that are watched
-    ∷ (let_go 0 from station 4 (holding 8197 ∷ replicate 7 empty_desk) no_owner gives 11)
-    ∷ (let_go 0 from station 4 (holding 8198 ∷ replicate 7 empty_desk) no_owner gives 2)
-    ∷ (let_go 0 from station 4 (replicate 4 empty_desk ++ holding 8198 ∷ replicate 3 empty_desk) no_owner gives 11)
+    ∷ (let-go 0 from station 4 (holding 8197 ∷ replicate 7 empty_desk) no_owner gives 11)
+    ∷ (let-go 0 from station 4 (holding 8198 ∷ replicate 7 empty_desk) no_owner gives 2)
+    ∷ (let-go 0 from station 4 (replicate 4 empty_desk ++ holding 8198 ∷ replicate 3 empty_desk) no_owner gives 11)
     -- "each block is free or stands at one place of one held slot"; past the store's blocks there is none to judge
-    ∷ (let_go 0 from station 4 no_desk (1 ∷ replicate 4095 0) gives 2)
-    ∷ (let_go 0 from station 4 no_desk (33 ∷ replicate 4095 0) gives 2)
-    ∷ (let_go 0 from station 4 no_desk (replicate 7 0 ++ 255 ∷ replicate 4088 0) gives 11)
+    ∷ (let-go 0 from station 4 no_desk (1 ∷ replicate 4095 0) gives 2)
+    ∷ (let-go 0 from station 4 no_desk (33 ∷ replicate 4095 0) gives 2)
+    ∷ (let-go 0 from station 4 no_desk (replicate 7 0 ++ 255 ∷ replicate 4088 0) gives 11)
     -- "slot 32 or more"
-    ∷ (let_go 32 from set-up 7 gives 11)
-    ∷ (let_go 65535 from set-up 7 gives 11)
+    ∷ (let-go 32 from set-up 7 gives 11)
+    ∷ (let-go 65535 from set-up 7 gives 11)
     ∷ []
 
 -- what each case says: the number, and that nothing changes
 abbrev pub Right : Case → Type 0
-Right (let_go k from s gives n) = file_let_go s k ≡ kept s n
+Right (let-go k from s gives n) = file_let_go s k ≡ kept s n
 Right (any-read-from s gives n) =
     (store : List ℕ) (k offset : ℕ) (buffer : List ℕ) → read_out s store k offset buffer ≡ read_gives n buffer
 

@@ -3,7 +3,7 @@
 -- a list whose first part is filled with what f makes of another
 use mathlib.Core.Path.{◌≡◌}
 use mathlib.Core.List.{◌++◌, map}
-use Prim.Native.Nat.{◌+◌, ◌-◌, ◌≤◌}
+use Prim.Native.Nat.{◌-◌, ◌≤◌}
 use lib.ListN.{length, take, drop, replicate}
 use Rattle.station.specs.SetUp.{channel_of}
 use Rattle.station.proofs.watch.Given as goal
