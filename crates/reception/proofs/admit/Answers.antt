@@ -58,23 +58,35 @@ plain-good craft watched f before e p a g = p ∙ plain-framed f before (good-fr
 
 pub returns-then-not-lent_right : goal.returns-then-not-lent_right
 returns-then-not-lent_right c =
+    let a = c.args in
     let wrong = denied c.lent_right.ensures c.if-not-lent_right.true-raw in
-    (refused-lent (state (goal.at.returns-then-not-lent_right c).Start) c.args.desks.now c.args.store.now c.args.list.now c.args.octets.now wrong, λ a e. cc)
+    record {
+      value = refused-lent (state (goal.at.returns-then-not-lent_right c).Start) a.desks.now a.store.now a.list.now a.octets.now wrong;
+      plain_after = λ a e. cc;
+    }
 
 pub returns-then-not-are_parts_sound : goal.returns-then-not-are_parts_sound
-returns-then-not-are_parts_sound c = (refused-state _ _ _ _ _ (lent (goal.at.returns-then-not-are_parts_sound c).Else-not-lent_right) (denied c.are_parts_sound.ensures c.if-not-are_parts_sound.true-raw), λ a e. cc)
+returns-then-not-are_parts_sound c =
+    let l = (goal.at.returns-then-not-are_parts_sound c).Else-not-lent_right in
+    record {
+      value = refused-state _ _ _ _ _ (lent l) (denied c.are_parts_sound.ensures c.if-not-are_parts_sound.true-raw);
+      plain_after = λ a e. cc;
+    }
 
 pub are_desks_sound-requires : goal.are_desks_sound-requires
 are_desks_sound-requires c =
-    let i = start (fits (goal.at.are_desks_sound-requires c).Else-not-are_parts_sound) in
+    let e = (goal.at.are_desks_sound-requires c).Else-not-are_parts_sound in
+    let i = start (fits e) in
     record {
-  n_bound = (channels-few _ (sized i) (sound (goal.at.are_desks_sound-requires c).Else-not-are_parts_sound), lent-desks (state i) i.args.desks.now i.args.store.now i.args.list.now (lent (fits (goal.at.are_desks_sound-requires c).Else-not-are_parts_sound)));
-  positions_value = desks-hold _ (sound (goal.at.are_desks_sound-requires c).Else-not-are_parts_sound);
-}
+      n_bound = (channels-few _ (sized i) (sound e), lent-desks (state i) i.args.desks.now i.args.store.now i.args.list.now (lent (fits e)));
+      positions_value = desks-hold _ (sound e);
+    }
 
 pub returns-then-not-are_desks_sound : goal.returns-then-not-are_desks_sound
 returns-then-not-are_desks_sound c =
-    (refused-desks _ _ _ _ _ (lent (fits (goal.at.returns-then-not-are_desks_sound c).Else-not-are_parts_sound)) (sound (goal.at.returns-then-not-are_desks_sound c).Else-not-are_parts_sound) (denied c.are_desks_sound.ensures c.if-not-are_desks_sound.true-raw), λ a (goal.at.returns-then-not-are_desks_sound c).Else-not-are_parts_sound. cc)
+    let s = (goal.at.returns-then-not-are_desks_sound c).Else-not-are_parts_sound in
+    let wrong = denied c.are_desks_sound.ensures c.if-not-are_desks_sound.true-raw in
+    record { value = refused-desks _ _ _ _ _ (lent (fits s)) (sound s) wrong; plain_after = λ a e. cc }
 
 pub examine-requires : goal.examine-requires
 examine-requires c =
@@ -83,8 +95,10 @@ examine-requires c =
 
 pub returns : goal.returns
 returns c =
+    let d = (goal.at.returns c).Else-not-are_desks_sound in
+    let e = steady d in
     let told = c.examine.ensures in
     record {
-  value = told.0 ∙ as-examined _ _ _ _ _ (lent (fits (steady (goal.at.returns c).Else-not-are_desks_sound))) (sound (steady (goal.at.returns c).Else-not-are_desks_sound)) (orderly (goal.at.returns c).Else-not-are_desks_sound);
-  plain_after = plain-good _ _ _ _ told.0 told.1;
-}
+      value = told.value ∙ as-examined _ _ _ _ _ (lent (fits e)) (sound e) (orderly d);
+      plain_after = plain-good _ _ _ _ told.value told.plain_after;
+    }

@@ -7,29 +7,31 @@ use Rattle.state.specs.Slots.{station_of}
 use Rattle.state.specs.Sound.{Sized}
 use Rattle.station.proofs.Frames.{desk-kept, admits, zone-here, walk-lent, frame-taken}
 use Rattle.reception.proofs.take_parts.Goals as goal
-use Rattle.reception.proofs.take_parts.Goals.{After-admit-e, Start}
+use Rattle.reception.proofs.take_parts.Goals.{Start}
 
 abbrev state : Start → Station
-state i = station_of i.args.t1 i.args.owner.now i.args.slots
+state i = station_of i.args.head i.args.owner.now i.args.slots
 
 sized : (i : Start) → Sized (state i)
 sized i =
     record { watched = search (rules, unmap); desks = search (rules, unmap); owner = search rules; slots = search (rules, unmap) }
 
--- where the frame was looked at
-abbrev start : After-admit-e → Start
-start k = (goal.at.After-admit-e k).Start
-
 pub returns-in-Refused : goal.returns-in-Refused
-returns-in-Refused c = (search rules, desk-kept _ _ _ _ _ 0 (sym c.in-Refused.is ∙ c.admit-e.ensures.value))
+returns-in-Refused c =
+    record { desk_bound = search rules; list_after = desk-kept _ _ _ _ _ 0 (sym c.in-Refused.is ∙ c.admit-e.ensures.value) }
 
 pub take_accepted-requires : goal.take_accepted-requires
 take_accepted-requires c =
     let good = c.in-Good.is in
-    walk-lent (sized (start (goal.at.take_accepted-requires c).Start)) (admits _ _ _ _ _ c.admit-e.ensures.value good) (zone-here _ (c.admit-e.ensures.plain_after _ good))
+    let i = (goal.at.take_accepted-requires c).Start in
+    let (lent, desks) = walk-lent (sized i) (admits _ _ _ _ _ c.admit-e.ensures.value good) (zone-here _ (c.admit-e.ensures.plain_after _ good)) in
+    record { lent = lent; desks_sound = desks }
 
 pub returns-in-Good : goal.returns-in-Good
 returns-in-Good c =
     let good = c.in-Good.is in
     let took = c.take_accepted.ensures in
-    (took.0, frame-taken _ _ _ _ _ (sym good ∙ c.admit-e.ensures.value) (zone-here _ (c.admit-e.ensures.plain_after _ good)) took.1)
+    record {
+      desk_bound = took.desk_bound;
+      list_after = frame-taken _ _ _ _ _ (sym good ∙ c.admit-e.ensures.value) (zone-here _ (c.admit-e.ensures.plain_after _ good)) took.list_after;
+    }
