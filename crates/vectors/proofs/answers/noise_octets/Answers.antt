@@ -1,5 +1,4 @@
 -- `vectors::answers::noise_octets` meets its contract: what is written so far, with the digits of the octets left, is the whole. Assumes nothing.
-use Prim.Native.Nat.{◌-◌}
 use native.Mathlib.Omega.{arith}
 use borrow.Author.Rules.{rules}
 use Rattle.vectors.proofs.Sounding.{sounding-none, sounding-more, sounding-all}

@@ -1,6 +1,5 @@
 -- `vectors::digits::decode` meets its contract. The invariant: the octets so far stand in front of those of the digits that are left. Assumes nothing.
 use mathlib.Core.Path.{refl, sym}
-use Prim.Native.Nat.{◌-◌}
 use native.Mathlib.Omega.{arith}
 use lib.ListN.{length-set}
 use Rattle.vectors.proofs.Decoding.{odd-none, begin, end, high-none, low-none, more}
