@@ -6,7 +6,10 @@ use lib.Seq.{set_out}
 use Rattle.vectors.proofs.gather.Goals as goal
 
 pub returns-then-held-lt-QUESTION : goal.returns-then-held-lt-QUESTION
-returns-then-held-lt-QUESTION c = (sym (rw (lt-ltb _ _ c.if-held-lt-QUESTION.true)), refl)
+returns-then-held-lt-QUESTION c = record {
+  value = sym (rw (lt-ltb _ _ c.if-held-lt-QUESTION.true));
+  line_after = refl;
+}
 
 pub returns : goal.returns
 returns c = record {

@@ -1,6 +1,5 @@
 -- `vectors::take_in` meets its contract. Assumes nothing.
 use mathlib.Core.Path.{refl}
-use Prim.Native.Nat.{◌-◌}
 use native.Mathlib.Omega.{arith}
 use borrow.Author.Rules.{rules}
 use Rattle.vectors.specs.Kept.{kept}

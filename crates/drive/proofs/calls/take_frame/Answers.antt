@@ -10,6 +10,6 @@ returns c =
     let f = c.frame_lent-f.ensures in
     let few : a.x.b ≤ 1200 = omega arith in
     record {
-      store_after = frame-done a.x a.w _ _ _ few f.0;
-      end_bound = (f.1.0, rw (frame-given a.x a.w _ _ _ few) at f.1.1);
+      store_after = frame-done a.x a.w _ _ _ few f.went_on;
+      end_bound = (f.end_bound.0, rw (frame-given a.x a.w _ _ _ few) at f.end_bound.1);
     }

@@ -6,7 +6,7 @@ use Rattle.drive.proofs.calls.tell_file.Goals as goal
 pub returns : goal.returns
 returns c =
     let a = c.args in
-    let line = c.before.before.told_Line.ensures in
+    let line = c.told_line.ensures in
     let told = c.tell_file-told.ensures in
     record {
       by_index = (λ desks store. refl);

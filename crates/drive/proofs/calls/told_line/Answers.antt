@@ -10,5 +10,5 @@ returns-in-Refused c =
 
 pub returns-in-Known : goal.returns-in-Known
 returns-in-Known c =
-    let line = c.before.before.told_Line.ensures in
+    let line = c.told_line.ensures in
     (omega (arith, line.0), known-told c.in-Known.is line.1)
