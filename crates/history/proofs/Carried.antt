@@ -52,7 +52,7 @@ pages-follow : {s : Station} {store : List ℕ} (ts : List Thing) → Settled s 
 unfolding noted_all added
 pages-follow [] h r k low e l y q = sym (append-nil (l k))
 pages-follow {s} {store} (t ∷ ts) h r k low e l y q =
-    by (turn h k low t) (λ e' q'. pages-follow ts (did-settled t h r.0) r.1 k low e' (λ i. noted_by i t (did s store t).events (l i)) y q')
+    by (turn h k low t) (λ e' q'. pages-follow {s = (did s store t).station} {store = (did s store t).store} ts (did-settled t h r.0) r.1 k low e' (λ i. noted_by i t (did s store t).events (l i)) y q')
   where
     by : Turn s store t k (did s store t)
         → (held (slot_at (did s store t).station k) ≡ true → follow k (slot_at (did s store t).station k) ts ≡ Still y

@@ -228,7 +228,7 @@ run-listened {w} h i low c is (call ∷ cs) fs ps e =
     subst (λ (d : Channel). Listened (fs ++ accepted_in w call d) (ps ++ packets_under d (things w call)) (on_desk (runs.after w call) i)) is
     (call-heard h i low call fs ps e) in
     let rest =
-    run-listened (after-sound h call) i (omega (arith, k.channels)) c (ap (λ (ws : List Channel). get_or ws i (channel_of 0)) k.watched ∙ is) cs
+    run-listened {w = runs.after w call} (after-sound h call) i (omega (arith, k.channels)) c (ap (λ (ws : List Channel). get_or ws i (channel_of 0)) k.watched ∙ is) cs
     (fs ++ accepted_in w call c) (ps ++ packets_under c (things w call)) one in
     rw (
       under-append c (things w call) (all_things (runs.after w call) cs),

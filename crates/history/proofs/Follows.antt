@@ -109,7 +109,7 @@ pub fares : {s : Station} {store : List ℕ} (ts : List Thing) → Settled s sto
     → Fares s store ts k (follow k (slot_at s k) ts)
 unfolding did_all follow
 fares {s} [] h r k low e = (refl, keeps-all s k e)
-fares {s} {store} (t ∷ ts) h r k low e = by (turn h k low t) (fares ts (did-settled t h r.0) r.1 k low)
+fares {s} {store} (t ∷ ts) h r k low e = by (turn h k low t) (fares {s = (did s store t).station} {store = (did s store t).store} ts (did-settled t h r.0) r.1 k low)
   where
     by : Turn s store t k (did s store t)
         → (held (slot_at (did s store t).station k) ≡ true
@@ -223,7 +223,7 @@ origin {s} {store} (t ∷ ts) h r k low e =
     let j = did s store t in
     let x = slot_at (did_all j.station j.store ts).station k in
     ⊎_elim (λ (a, f). came-first h t ts k x (turn h k low t) a f) (λ m. inr (came-later s store t ts k x m))
-    (origin ts (did-settled t h r.0) r.1 k low e)
+    (origin {s = (did s store t).station} {store = (did s store t).store} ts (did-settled t h r.0) r.1 k low e)
 
 -- a complete file is held, and all its packets are accepted
 pub complete-held : (x : Slot) → complete x ≡ true → (held x ≡ true) × (x.accepted ≡ need_of x)

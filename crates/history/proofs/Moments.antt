@@ -109,7 +109,7 @@ pub all_settled : {s : Station} {store : List ℕ} (ts : List Thing) → Settled
     → Settled (did_all s store ts).station (did_all s store ts).store
 unfolding did_all
 all_settled [] h r = h
-all_settled (t ∷ ts) h r = all_settled ts (did-settled t h r.0) r.1
+all_settled {s} {store} (t ∷ ts) h r = all_settled {s = (did s store t).station} {store = (did s store t).store} ts (did-settled t h r.0) r.1
 
 pub rightly-append : (s : Station) (store : List ℕ) (ts us : List Thing) → AllRightly s store ts
     → AllRightly (did_all s store ts).station (did_all s store ts).store us → AllRightly s store (ts ++ us)
@@ -131,7 +131,7 @@ unfolding did
 rightly-frame store [] i d w l h = ((l, h), tt)
 rightly-frame {c} {s} store (p ∷ ps) i d w l h =
     let a = judged-stays c s store p in
-    (w, rightly-frame (judged c s store p).store ps i d (stays-watched a w) (rw a.channels l) h)
+    (w, rightly-frame {s = (judged c s store p).station} (judged c s store p).store ps i d (stays-watched a w) (rw a.channels l) h)
 
 -- a call that is refused brings nothing
 module _ (w : World) where
@@ -250,7 +250,7 @@ run-rightly h [] = tt
 run-rightly {w} h (c ∷ cs) =
     let l = call-leaves w c in
     rightly-append w.station w.store (things w c) (all_things (runs.after w c) cs) (call-rightly h c)
-    (rw (l.station, l.store) (run-rightly (after-sound h c) cs))
+    (rw (l.station, l.store) (run-rightly {w = runs.after w c} (after-sound h c) cs))
 
 -- the state at any moment of a run
 module _ (m : Moment) where

@@ -4,7 +4,7 @@ use mathlib.Core.Path.{◌≡◌, refl, sym, ap, subst, ◌∙◌}
 use mathlib.Core.Bool.{true, true≢false}
 use mathlib.Core.Logic.{⊎_elim}
 use mathlib.Core.List.{List, [], ◌∷◌, ◌++◌, flatten}
-use Prim.Native.Nat.{ℕ, zero, ◌+◌, ◌-◌, ◌*◌, ◌/◌, ◌%◌, ◌≤◌, ◌<◌}
+use Prim.Native.Nat.{ℕ, ◌+◌, ◌-◌, ◌*◌, ◌/◌, ◌%◌, ◌≤◌, ◌<◌}
 use native.Mathlib.Decide.{dec_lt}
 use native.Mathlib.Omega.{arith}
 use borrow.Author.Tests.{eq-eqb, ne_eqb, le-leb}
@@ -146,7 +146,7 @@ pub pages-all : {s : Station} {store : List ℕ} (ts : List Thing) → Settled s
 unfolding did_all noted_all
 pages-all [] h r l k low p e = p e
 pages-all {s} {store} (t ∷ ts) h r l k low p e =
-    pages-all ts (did-settled t h r.0) r.1 (λ i. noted_by i t (did s store t).events (l i)) k low
+    pages-all {s = (did s store t).station} {store = (did s store t).store} ts (did-settled t h r.0) r.1 (λ i. noted_by i t (did s store t).events (l i)) k low
     (page-turn h k low t (l k) p (turn h k low t)) e
 
 -- of a world and its ledger
@@ -162,7 +162,7 @@ call-pages {w} h c l p k low e =
 run-pages : {w : World} → SoundWorld w → (cs : List Call) (l : Ledger) → Pages w l → Pages (run w cs) (ledger_run w cs l)
 unfolding run ledger_run
 run-pages h [] l p = p
-run-pages {w} h (c ∷ cs) l p = run-pages (after-sound h c) cs (ledger_after w c l) (call-pages h c l p)
+run-pages {w} h (c ∷ cs) l p = run-pages {w = after w c} (after-sound h c) cs (ledger_after w c l) (call-pages h c l p)
 
 -- a complete file
 module _ (x : Slot) (bs store : List ℕ) (q : Page) (r : PageRight x bs store q) (all : x.accepted ≡ need_of x) where

@@ -101,7 +101,7 @@ pub brought : {w : World} {c : Channel} {p : List ℕ} (cs : List Call) → Mem�
 unfolding all_things
 brought [] m = absurd (Memᴰ.not-nil m)
 brought {w} (call ∷ cs) m =
-    ⊎_elim (brought-now w call cs) (λ n. brought-later call cs (brought cs n))
+    ⊎_elim (brought-now w call cs) (λ n. brought-later call cs (brought {w = runs.after w call} cs n))
     (in_either (things w call) (all_things (runs.after w call) cs) m)
 
 -- the packets that went on with a file are among the things, under the file's channel

@@ -109,7 +109,7 @@ module _ {w : World} (h : SoundWorld w) where
 pub run_sound : {w : World} → SoundWorld w → (cs : List Call) → SoundWorld (run w cs)
 unfolding run
 run_sound h [] = h
-run_sound h (c ∷ cs) = run_sound (after-sound h c) cs
+run_sound {w} h (c ∷ cs) = run_sound {w = after w c} (after-sound h c) cs
 
 pub fresh-sound : (x : Start) → SoundWorld (fresh x)
 fresh-sound x = set_up-ready x.spacecraft x.channels x.desks x.store x.good
