@@ -33,7 +33,7 @@ pub struct Told {
 
 // The data of a packet into the block at a place of slot k, by the owners of the blocks.
 fn write(owner: &[u8], blocks: u16, k: usize, place: usize, data: &[u8], store: &mut [u8])
-    requires k_bound { (k < 32) × (blocks ≤ length owner.now) × (length store.old ≡ 8190 * blocks) }
+    requires lent { (k < 32) × (blocks ≤ length owner.now) × (length store.old ≡ 8190 * blocks) }
     requires place_in_bounds { (place < length (numbers_of (suc k) 0 (take blocks owner.now))) × (length «data».now ≤ 8190) }
     ensures { store.new ≡ put store.old (8190 * get_or (numbers_of (suc k) 0 (take blocks owner.now)) place 0) «data».now }
 {
@@ -71,7 +71,7 @@ fn open_at(
     n: usize,
 ) -> Told
     requires ready { Ready (station_of head owner.old slots) store.old list.old n 2 }
-    requires k_bound { (k < 32) × (held (get_or slots k no_file) ≡ false) × (1 ≤ need t.bits) × (need t.bits ≤ room_of (station_of head owner.old slots)) × (length «data».now ≤ 8190) }
+    requires fresh { (k < 32) × (held (get_or slots k no_file) ≡ false) × (1 ≤ need t.bits) × (need t.bits ≤ room_of (station_of head owner.old slots)) × (length «data».now ≤ 8190) }
     ensures { Tells (opens channel (station_of head owner.old slots) store.old h «data».now k t) n list.old (station_of head owner.new result.slots) result.events store.new list.new }
 {
     let application = h.application;
@@ -130,7 +130,7 @@ fn begin_over(
     n: usize,
 ) -> Told
     requires ready { Ready (station_of head owner.old slots) store.old list.old n 3 }
-    requires k_bound { (k < 32) × (place_of head.blocks (set slots k no_file) (begun_of h.flags «data».now) ≡ place) × (length «data».now ≤ 8190) }
+    requires placed { (k < 32) × (place_of head.blocks (set slots k no_file) (begun_of h.flags «data».now) ≡ place) × (length «data».now ≤ 8190) }
     ensures { Tells (acted channel (station_of head owner.old slots) store.old h «data».now (Act.Over k place)) n list.old (station_of head owner.new result.slots) result.events store.new list.new }
 {
     let ended = end_file(head, owner, slots, h, k, list, n);
@@ -170,8 +170,8 @@ fn go_on(
     list: &mut [u16],
     n: usize,
 ) -> Told
-    requires k_bound { (k < 32) × (blocks ≤ length owner.now) × (length store.old ≡ 8190 * blocks) × (3 * (n + 1) ≤ length list.old) }
-    requires no_file_in_bounds { ((get_or slots k no_file).accepted < length (numbers_of (suc k) 0 (take blocks owner.now))) × (length «data».now ≤ 8190) }
+    requires lent { (k < 32) × (blocks ≤ length owner.now) × (length store.old ≡ 8190 * blocks) × (3 * (n + 1) ≤ length list.old) }
+    requires place_in_bounds { ((get_or slots k no_file).accepted < length (numbers_of (suc k) 0 (take blocks owner.now))) × (length «data».now ≤ 8190) }
     ensures slots_value { result.slots ≡ set slots k (next_slot (get_or slots k no_file) h) }
     ensures store_after { store.new ≡ put store.old (8190 * get_or (numbers_of (suc k) 0 (take blocks owner.now)) (get_or slots k no_file).accepted 0) «data».now }
     ensures events_value { (result.events ≡ n + 1) × (list.new ≡ put list.old (3 * n) (next_kind h ∷ h.application.0 ∷ k ∷ [])) }

@@ -24,9 +24,9 @@ returns-in-Denied c =
 
 pub open_at-requires : goal.open_at-requires
 open_at-requires c =
-    let f = left-fresh _ (sized (goal.at.open_at-requires c).Start) _ _ _ c.end_file-ended.ensures.slots_after (c.requires.k_bound.1 ∙ c.in-Granted.is) in record {
-      ready = ready-gone _ 2 _ (sized (goal.at.open_at-requires c).Start) c.requires.k_bound.0 c.requires.ready c.end_file-ended.ensures.slots_after c.end_file-ended.ensures.events_value.0 c.end_file-ended.ensures.events_value.1;
-      k_bound = (f.low, f.free, f.some, f.fits, c.requires.k_bound.2);
+    let f = left-fresh _ (sized (goal.at.open_at-requires c).Start) _ _ _ c.end_file-ended.ensures.slots_after (c.requires.placed.1 ∙ c.in-Granted.is) in record {
+      ready = ready-gone _ 2 _ (sized (goal.at.open_at-requires c).Start) c.requires.placed.0 c.requires.ready c.end_file-ended.ensures.slots_after c.end_file-ended.ensures.events_value.0 c.end_file-ended.ensures.events_value.1;
+      fresh = (f.low, f.free, f.some, f.fits, c.requires.placed.2);
     }
 
 pub returns-in-Granted : goal.returns-in-Granted

@@ -56,7 +56,7 @@ open_at-requires c =
     let f = placed-fresh _ (sized (goal.at.open_at-requires c).Start) _ _ (known (goal.at.open_at-requires c).Start c.in-Opens.is) in
     record {
       ready = ready-less c.requires.ready 2 (omega arith);
-      k_bound = (f.low, f.free, f.some, f.fits, few (goal.at.open_at-requires c).Start);
+      fresh = (f.low, f.free, f.some, f.fits, few (goal.at.open_at-requires c).Start);
     }
 
 pub returns-in-Opens : goal.returns-in-Opens
@@ -69,7 +69,7 @@ begin_over-requires c =
     let low = (found-going _ (sized (goal.at.begin_over-requires c).Start) c.requires.ready.sound _ _ known.0).low in
     record {
       ready = c.requires.ready;
-      k_bound = (low, known.1, few (goal.at.begin_over-requires c).Start);
+      placed = (low, known.1, few (goal.at.begin_over-requires c).Start);
     }
 
 pub returns-in-Over : goal.returns-in-Over
@@ -80,8 +80,8 @@ pub go_on-requires : goal.go_on-requires
 go_on-requires c =
     let g = found-going _ (sized (goal.at.go_on-requires c).Start) c.requires.ready.sound _ _ (known (goal.at.go_on-requires c).Start c.in-GoesOn.is) in
     let least = c.requires.ready.sound.set_up.least in record {
-      k_bound = (g.low, omega (arith, c.requires.ready.owners, least), c.requires.ready.blocks, omega (arith, c.requires.ready.enough));
-      no_file_in_bounds = (omega (arith, g.less, g.places), few (goal.at.go_on-requires c).Start);
+      lent = (g.low, omega (arith, c.requires.ready.owners, least), c.requires.ready.blocks, omega (arith, c.requires.ready.enough));
+      place_in_bounds = (omega (arith, g.less, g.places), few (goal.at.go_on-requires c).Start);
     }
 
 pub returns-in-GoesOn : goal.returns-in-GoesOn

@@ -6,7 +6,7 @@ use Rattle.act.proofs.go_on.Goals as goal
 
 pub overflow_add-x : goal.overflow_add-x
 overflow_add-x c =
-    omega (arith, c.requires.no_file_in_bounds.0, blocks-few c.args.blocks c.args.owner.now c.args.k)
+    omega (arith, c.requires.place_in_bounds.0, blocks-few c.args.blocks c.args.owner.now c.args.k)
 
 pub returns : goal.returns
 returns c =

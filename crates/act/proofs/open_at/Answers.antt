@@ -16,7 +16,7 @@ pub write-requires : goal.write-requires
 write-requires c =
     let S = c.requires.ready.sound in
     let owners = opened-owners _ _ (sized (goal.at.write-requires c).Start) S c.open_file-after.ensures in
-    let first = opened-first _ _ (sized (goal.at.write-requires c).Start) S c.open_file-after.ensures c.requires.k_bound.1 c.requires.k_bound.2 c.requires.k_bound.3 in
+    let first = opened-first _ _ (sized (goal.at.write-requires c).Start) S c.open_file-after.ensures c.requires.fresh.1 c.requires.fresh.2 c.requires.fresh.3 in
     search rules
 
 pub returns : goal.returns
