@@ -1,9 +1,9 @@
 -- `walk::walk_rest` holds what the walk leaves, and tells a bad header. Assumes nothing.
--- where the code begins, from where the zone was walked
 use Rattle.walk.proofs.Ends.{going, settling, ends-settled}
 use Rattle.walk.proofs.walk_rest.Goals as goal
 use Rattle.walk.proofs.walk_rest.Goals.{After-walk-w, Start}
 
+-- where the code begins, from where the zone was walked
 abbrev start : After-walk-w → Start
 start w = (goal.at.After-walk-w w).Start
 
