@@ -70,8 +70,8 @@ fn octets_held(desk: &[u8], held: u16) -> bool
 
 // What the octets of the first n desks say, where the state alone is sound: one pass over each desk.
 pub fn are_desks_sound(positions: [Desk; Channel::MOST], n: u8, desks: &[u8]) -> bool
-    requires n_bound { (n ≤ 8) × (length desks.now ≡ 8198 * n) }
-    requires positions_value { each desk_holds (take n positions) ≡ true }
+    requires desks_fit { (n ≤ 8) × (length desks.now ≡ 8198 * n) }
+    requires positions_hold { each desk_holds (take n positions) ≡ true }
     ensures { result ≡ desks_held 0 (take n positions) desks.now }
 {
     let count = n as usize;

@@ -70,8 +70,8 @@ pub fn let_file_go(s: Station, slot: u16) -> LetGo
 
 // Octets of the complete file in slot k, from an offset on, to fill a buffer.
 fn fill(s: Station, store: &[u8], k: usize, offset: u64, buffer: &mut [u8]) -> u8
-    requires store_value { (store_fits s.blocks store.now ≡ true) × (is_sound s ≡ true) }
-    requires k_bound { (k < 32) × (complete (slot_at s k) ≡ true) }
+    requires fits_and_sound { (store_fits s.blocks store.now ≡ true) × (is_sound s ≡ true) }
+    requires k_complete { (k < 32) × (complete (slot_at s k) ≡ true) }
     ensures { read_gives result buffer.new ≡ read_as s store.now offset buffer.old (Asked.Complete k) }
 {
     let x = s.slots[k];
@@ -105,8 +105,8 @@ pub fn read_file(s: Station, store: &[u8], slot: u16, offset: u64, buffer: &mut 
 
 // What is known of the complete file in slot k. All but the counter stands in the slot; the counter is the first two octets of the file's blocks.
 fn know(s: Station, store: &[u8], k: usize) -> Told
-    requires store_value { (store_fits s.blocks store.now ≡ true) × (is_sound s ≡ true) }
-    requires k_bound { (k < 32) × (complete (slot_at s k) ≡ true) }
+    requires fits_and_sound { (store_fits s.blocks store.now ≡ true) × (is_sound s ≡ true) }
+    requires k_complete { (k < 32) × (complete (slot_at s k) ≡ true) }
     ensures { result ≡ told_as s store.now (Asked.Complete k) }
 {
     let mut two = [0u8; 2];

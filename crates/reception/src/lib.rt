@@ -95,7 +95,7 @@ fn take_accepted(
     requires lent { Lent (channel_at (station_of head owner.old slots) a.desk) (station_of head owner.old slots) a zone.now desks.old store.old list.old }
     requires desks_sound { DesksSound (station_of head owner.old slots) desks.old }
     ensures desk_bound { result.desk < 8 }
-    ensures list_after { outcome_of head owner.new result desks.new store.new list.new ≡ taken (station_of head owner.old slots) list.old (walked (channel_at (station_of head owner.old slots) a.desk) (station_of head owner.old slots) desks.old store.old zone.now a) }
+    ensures outcome { outcome_of head owner.new result desks.new store.new list.new ≡ taken (station_of head owner.old slots) list.old (walked (channel_at (station_of head owner.old slots) a.desk) (station_of head owner.old slots) desks.old store.old zone.now a) }
 {
     let i = a.desk;
     let channel = head.watched[i];
@@ -123,7 +123,7 @@ fn take_parts(
 ) -> Outcome
     requires { length owner.old ≡ 4096 }
     ensures desk_bound { result.desk < 8 }
-    ensures list_after { outcome_of head owner.new result desks.new store.new list.new ≡ framed (station_of head owner.old slots) desks.old store.old list.old octets.now }
+    ensures outcome { outcome_of head owner.new result desks.new store.new list.new ≡ framed (station_of head owner.old slots) desks.old store.old list.old octets.now }
 {
     let mut plain = [0u8; Frame::CODED];
     let e = admit(head, owner, slots, desks, store, list, octets, &mut plain);

@@ -1,7 +1,7 @@
 -- `are_desks_sound` meets its contract. The loop's invariant: the octets of the first n desks are sound exactly if those from number i on
 -- are. The measure is what is left of the n. Assumes nothing.
 -- the octets of desk i, as the code cuts them out
-use mathlib.Core.Path.{◌≡◌, refl, ap, ap₂}
+use mathlib.Core.Path.{◌≡◌, refl, ap, ap₂, sym, ◌∙◌}
 use mathlib.Core.Bool.{true}
 use mathlib.Core.List.{List}
 use Prim.Native.Nat.{ℕ, ◌+◌, ◌-◌, ◌*◌, ◌≤◌, ◌<◌}
@@ -15,7 +15,6 @@ use Rattle.octets.specs.Number.{part}
 use Rattle.octets.proofs.Decide.{told-true}
 use Rattle.octets.proofs.Each.{each_at}
 use Rattle.octets.proofs.Lists.{whole_part, unmap}
-use Rattle.octets.proofs.Tests.{denied, granted}
 use Rattle.state.specs.declared.Desk.{Desk}
 use Rattle.state.specs.Slots.{empty_desk}
 use Rattle.state.specs.Sound.{desk_octets}
@@ -48,19 +47,19 @@ loop-i-init c = begins _ _ _ (search (rules, unmap))
 pub octets_held-requires : goal.octets_held-requires
 octets_held-requires c =
     let p = c.requires in
-    room _ _ empty_desk c.loop-i.i _ c.loop-i.invariant.there p.positions_value p.n_bound.1 (omega arith)
+    room _ _ empty_desk c.loop-i.i _ c.loop-i.invariant.there p.positions_hold p.desks_fit.1 (omega arith)
 
 pub returns-then-not-octets_held : goal.returns-then-not-octets_held
 unfolding desks_held
 returns-then-not-octets_held c =
     let l = c.loop-i in
-    settled l.invariant empty_desk (omega arith) (rw (← cut_out_lem l.i _, denied c.octets_held.ensures c.if-not-octets_held.true-raw))
+    settled l.invariant empty_desk (omega arith) (rw (← cut_out_lem l.i _, sym c.octets_held.ensures ∙ c.if-not-octets_held.true))
 
 pub loop-i-preserved : goal.loop-i-preserved
 unfolding desks_held
 loop-i-preserved c =
     let l = c.loop-i in
-    let sound = granted c.octets_held.ensures c.if-not-octets_held.false-raw in
+    let sound = sym c.octets_held.ensures ∙ c.if-not-octets_held.false in
     passed l.invariant empty_desk (omega arith) (rw (← cut_out_lem l.i _, sound, add-one l.i))
 
 pub returns : goal.returns

@@ -42,10 +42,10 @@ copy_out-requires c =
       owner = search rules;
       slots = search (rules, unmap);
     } in
-    let few = sound-store s c.requires.store_value.1 in
-    let room = file-room z c.requires.store_value.1 c.requires.k_bound.0 c.requires.k_bound.1 in
+    let few = sound-store s c.requires.fits_and_sound.1 in
+    let room = file-room z c.requires.fits_and_sound.1 c.requires.k_complete.0 c.requires.k_complete.1 in
     record {
-      n_in_bounds = (omega (arith, z.owner), fits-store s.blocks c.args.store.now c.requires.store_value.0);
+      n_in_bounds = (omega (arith, z.owner), fits-store s.blocks c.args.store.now c.requires.fits_and_sound.0);
       buffer_bound = rw add-one (omega arith);
     }
 

@@ -27,8 +27,8 @@ pub fill-requires : goal.fill-requires
 fill-requires c =
     let (known, whole) = told-complete _ _ c.ask-a.ensures c.in-Complete.is in
     record {
-      store_value = (search granted, known.sound);
-      k_bound = (known.low, whole);
+      fits_and_sound = (search granted, known.sound);
+      k_complete = (known.low, whole);
     }
 
 pub returns-in-Refused : goal.returns-in-Refused

@@ -29,8 +29,8 @@ pub know-requires : goal.know-requires
 know-requires c =
     let (known, whole) = told-complete _ _ c.ask-a.ensures c.in-Complete.is in
     record {
-      store_value = (search granted, known.sound);
-      k_bound = (omega (arith, known.low), whole);
+      fits_and_sound = (search granted, known.sound);
+      k_complete = (omega (arith, known.low), whole);
     }
 
 pub returns-in-Refused : goal.returns-in-Refused

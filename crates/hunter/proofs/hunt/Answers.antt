@@ -1,6 +1,5 @@
 use mathlib.Core.Path.{◌≡◌, sym, ◌∙◌}
 use borrow.Author.Rules.{rules}
-use borrow.Author.Tests.{not-true, not-false}
 use lib.ListN.{length}
 use Rattle.octets.proofs.Decide.{told-true}
 use Rattle.stream.specs.Hunter.{Sound}
@@ -14,7 +13,7 @@ size c = search rules
 
 sound-there : (c : Else-not-is_sound) → Sound c.args.h
 sound-there c =
-    told-true (decides-sound c.args.h (size (goal.at.Else-not-is_sound c).Start)) (sym c.is_sound.ensures ∙ not-false _ c.if-not-is_sound.false-raw)
+    told-true (decides-sound c.args.h (size (goal.at.Else-not-is_sound c).Start)) (sym c.is_sound.ensures ∙ c.if-not-is_sound.false)
 
 pub returns-then-buffer-ne-SIZE : goal.returns-then-buffer-ne-SIZE
 returns-then-buffer-ne-SIZE c =
@@ -24,7 +23,7 @@ returns-then-buffer-ne-SIZE c =
 pub returns-then-not-is_sound : goal.returns-then-not-is_sound
 returns-then-not-is_sound c =
     let a = c.args in
-    sym (unsound a.h a.portion.now a.buffer.now c.if-buffer-ne-SIZE.false (sym c.is_sound.ensures ∙ not-true _ c.if-not-is_sound.true-raw))
+    sym (unsound a.h a.portion.now a.buffer.now c.if-buffer-ne-SIZE.false (sym c.is_sound.ensures ∙ c.if-not-is_sound.true))
 
 pub search-requires : goal.search-requires
 search-requires c = record { sound = sound-there (goal.at.search-requires c).Else-not-is_sound; room = c.if-buffer-ne-SIZE.false }

@@ -35,7 +35,7 @@ pub returns-then-not-is_near : goal.returns-then-not-is_near
 returns-then-not-is_near c =
     let h = c.args.h in
     no-marker h (not-false _ c.if-not-h.false) (omega arith) (omega arith) (search rules) (omega arith)
-    (ap (near h.k) (sym c.u32_at-four.ensures) ∙ sym c.is_near.ensures ∙ not-true _ c.if-not-is_near.true-raw)
+    (ap (near h.k) (sym c.u32_at-four.ensures) ∙ sym c.is_near.ensures ∙ c.if-not-is_near.true)
 
 pub all_zero-requires-2 : goal.all_zero-requires-2
 all_zero-requires-2 c =
@@ -47,4 +47,4 @@ returns c =
     let h = c.args.h in
     c.all_zero-2.ensures
     ∙ marker-waits h (not-false _ c.if-not-h.false) (omega arith) (omega arith) (search rules) (omega arith)
-    (ap (near h.k) (sym c.u32_at-four.ensures) ∙ sym c.is_near.ensures ∙ not-false _ c.if-not-is_near.false-raw)
+    (ap (near h.k) (sym c.u32_at-four.ensures) ∙ sym c.is_near.ensures ∙ c.if-not-is_near.false)

@@ -6,7 +6,6 @@ use Prim.Native.Nat.{ℕ}
 use borrow.Author.Rules.{rules}
 use lib.ListN.{take}
 use Rattle.octets.proofs.Lists.{unmap}
-use Rattle.octets.proofs.Tests.{denied, granted}
 use Rattle.frame.specs.declared.Accepted.{Accepted}
 use Rattle.frame.specs.declared.Channel.{Channel}
 use Rattle.frame.specs.declared.Examined.{Examined}
@@ -36,20 +35,20 @@ abbrev start : Else-not-lent_right → Start
 start l = (goal.at.Else-not-lent_right l).Start
 
 lent : (l : Else-not-lent_right) → lent_right (state (start l)) (start l).args.desks.now (start l).args.store.now (start l).args.list.now ≡ true
-lent l = granted l.lent_right.ensures l.if-not-lent_right.false-raw
+lent l = sym l.lent_right.ensures ∙ l.if-not-lent_right.false
 
 abbrev fits : Else-not-are_parts_sound → Else-not-lent_right
 fits e = (goal.at.Else-not-are_parts_sound e).Else-not-lent_right
 
 sound : (e : Else-not-are_parts_sound) → is_sound (state (start (fits e))) ≡ true
-sound e = granted e.are_parts_sound.ensures e.if-not-are_parts_sound.false-raw
+sound e = sym e.are_parts_sound.ensures ∙ e.if-not-are_parts_sound.false
 
 abbrev steady : Else-not-are_desks_sound → Else-not-are_parts_sound
 steady d = (goal.at.Else-not-are_desks_sound d).Else-not-are_parts_sound
 
 orderly : (d : Else-not-are_desks_sound)
     → (let i = start (fits (steady d)) in desks_held 0 (take i.args.head.channels i.args.head.desks) i.args.desks.now) ≡ true
-orderly d = granted d.are_desks_sound.ensures d.if-not-are_desks_sound.false-raw
+orderly d = sym d.are_desks_sound.ensures ∙ d.if-not-are_desks_sound.false
 
 -- the scratch octets, where a frame was found good
 plain-good : (craft : ℕ) (watched : List Channel) (f before : List ℕ) {plain : List ℕ} {x : Examined} → x ≡ examined craft watched f
@@ -59,7 +58,7 @@ plain-good craft watched f before e p a g = p ∙ plain-framed f before (good-fr
 pub returns-then-not-lent_right : goal.returns-then-not-lent_right
 returns-then-not-lent_right c =
     let a = c.args in
-    let wrong = denied c.lent_right.ensures c.if-not-lent_right.true-raw in
+    let wrong = sym c.lent_right.ensures ∙ c.if-not-lent_right.true in
     record {
       value = refused-lent (state (goal.at.returns-then-not-lent_right c).Start) a.desks.now a.store.now a.list.now a.octets.now wrong;
       plain_after = λ a e. cc;
@@ -69,7 +68,7 @@ pub returns-then-not-are_parts_sound : goal.returns-then-not-are_parts_sound
 returns-then-not-are_parts_sound c =
     let l = (goal.at.returns-then-not-are_parts_sound c).Else-not-lent_right in
     record {
-      value = refused-state _ _ _ _ _ (lent l) (denied c.are_parts_sound.ensures c.if-not-are_parts_sound.true-raw);
+      value = refused-state _ _ _ _ _ (lent l) (sym c.are_parts_sound.ensures ∙ c.if-not-are_parts_sound.true);
       plain_after = λ a e. cc;
     }
 
@@ -78,14 +77,14 @@ are_desks_sound-requires c =
     let e = (goal.at.are_desks_sound-requires c).Else-not-are_parts_sound in
     let i = start (fits e) in
     record {
-      n_bound = (channels-few _ (sized i) (sound e), lent-desks (state i) i.args.desks.now i.args.store.now i.args.list.now (lent (fits e)));
-      positions_value = desks-hold _ (sound e);
+      desks_fit = (channels-few _ (sized i) (sound e), lent-desks (state i) i.args.desks.now i.args.store.now i.args.list.now (lent (fits e)));
+      positions_hold = desks-hold _ (sound e);
     }
 
 pub returns-then-not-are_desks_sound : goal.returns-then-not-are_desks_sound
 returns-then-not-are_desks_sound c =
     let s = (goal.at.returns-then-not-are_desks_sound c).Else-not-are_parts_sound in
-    let wrong = denied c.are_desks_sound.ensures c.if-not-are_desks_sound.true-raw in
+    let wrong = sym c.are_desks_sound.ensures ∙ c.if-not-are_desks_sound.true in
     record { value = refused-desks _ _ _ _ _ (lent (fits s)) (sound s) wrong; plain_after = λ a e. cc }
 
 pub examine-requires : goal.examine-requires

@@ -11,5 +11,5 @@ pub returns : goal.returns
 returns c =
     record {
       desk_bound = search rules;
-      list_after = walk-taken (station_of c.args.head c.args.owner.now c.args.slots) c.walk_frame-done.ensures;
+      outcome = walk-taken (station_of c.args.head c.args.owner.now c.args.slots) c.walk_frame-done.ensures;
     }

@@ -18,7 +18,7 @@ sized i =
 
 pub returns-in-Refused : goal.returns-in-Refused
 returns-in-Refused c =
-    record { desk_bound = search rules; list_after = desk-kept _ _ _ _ _ 0 (sym c.in-Refused.is ∙ c.admit-e.ensures.value) }
+    record { desk_bound = search rules; outcome = desk-kept _ _ _ _ _ 0 (sym c.in-Refused.is ∙ c.admit-e.ensures.value) }
 
 pub take_accepted-requires : goal.take_accepted-requires
 take_accepted-requires c =
@@ -33,5 +33,5 @@ returns-in-Good c =
     let took = c.take_accepted.ensures in
     record {
       desk_bound = took.desk_bound;
-      list_after = frame-taken _ _ _ _ _ (sym good ∙ c.admit-e.ensures.value) (zone-here _ (c.admit-e.ensures.plain_after _ good)) took.list_after;
+      outcome = frame-taken _ _ _ _ _ (sym good ∙ c.admit-e.ensures.value) (zone-here _ (c.admit-e.ensures.plain_after _ good)) took.outcome;
     }

@@ -11,7 +11,7 @@ use borrow.Author.Rules.{rules}
 use lib.ListN.{length, get_or, drop}
 use lib.Seq.{drop-cons}
 use Rattle.octets.proofs.Lists.{unmap}
-use Rattle.octets.proofs.Tests.{denied, granted, and-exchange}
+use Rattle.octets.proofs.Tests.{and-exchange}
 use Rattle.state.specs.declared.Slot.{Slot}
 use Rattle.state.specs.Slots.{no_file, incomplete, of_pair}
 use Rattle.state.specs.Decision.{slot_sound, slots_sound, twin_in, sound_alone, no_twins}
@@ -89,7 +89,7 @@ loop-k-init c = (search rules, begins-at _ _ _ 0 (search (rules, unmap)) (omega 
 
 pub returns-then-not-slot_sound : goal.returns-then-not-slot_sound
 returns-then-not-slot_sound c =
-    let no = unsound _ _ _ _ (denied c.slot_sound.ensures c.if-not-slot_sound.true-raw) in
+    let no = unsound _ _ _ _ (sym c.slot_sound.ensures ∙ c.if-not-slot_sound.true) in
     refused _ _ _ _ c.loop-k.invariant (search (rules, unmap)) (omega arith) no
 
 pub loop-j-init : goal.loop-j-init
@@ -109,13 +109,13 @@ loop-j-preserved c =
 
 pub loop-k-preserved-then-is_incomplete : goal.loop-k-preserved-then-is_incomplete
 loop-k-preserved-then-is_incomplete c =
-    let sound = granted c.slot_sound.ensures c.if-not-slot_sound.false-raw in
+    let sound = sym c.slot_sound.ensures ∙ c.if-not-slot_sound.false in
     let yes = has-none _ _ _ _ sound (ended c.loop-j.invariant (omega arith) (twin-end _)) in
     let-pass _ _ _ _ c.loop-k.invariant (search (rules, unmap)) (omega arith) yes
 
 pub loop-k-preserved : goal.loop-k-preserved
 loop-k-preserved c =
-    let sound = granted c.slot_sound.ensures c.if-not-slot_sound.false-raw in
+    let sound = sym c.slot_sound.ensures ∙ c.if-not-slot_sound.false in
     let yes = wants-none _ _ _ _ sound (sym c.is_incomplete.ensures ∙ c.if-is_incomplete.false) in
     let-pass _ _ _ _ c.loop-k.invariant (search (rules, unmap)) (omega arith) yes
 

@@ -61,7 +61,7 @@ returns-then-not-set_up_sound c = sym (no-set-up _ c.numbers-names.ensures (sear
 
 pub count_owners-owners-requires : goal.count_owners-owners-requires
 count_owners-owners-requires c =
-    let store = set-store _ _ _ (granted c.set_up_sound.ensures c.if-not-set_up_sound.false-raw) in
+    let store = set-store _ _ _ (sym c.set_up_sound.ensures ∙ c.if-not-set_up_sound.false) in
     search rules
 
 pub returns-then-not-owners : goal.returns-then-not-owners
@@ -71,7 +71,7 @@ returns-then-not-owners c =
 
 pub slice_bounds-slots_sound-end : goal.slice_bounds-slots_sound-end
 slice_bounds-slots_sound-end c =
-    let few = set-few _ _ _ (granted c.set_up_sound.ensures c.if-not-set_up_sound.false-raw) in
+    let few = set-few _ _ _ (sym c.set_up_sound.ensures ∙ c.if-not-set_up_sound.false) in
     search rules
 
 pub returns-then-not-slots_sound : goal.returns-then-not-slots_sound
@@ -81,7 +81,7 @@ returns-then-not-slots_sound c =
 
 pub desks_hold-requires : goal.desks_hold-requires
 desks_hold-requires c =
-    omega (arith, set-few _ _ _ (granted c.set_up_sound.ensures c.if-not-set_up_sound.false-raw))
+    omega (arith, set-few _ _ _ (sym c.set_up_sound.ensures ∙ c.if-not-set_up_sound.false))
 
 pub returns : goal.returns
 returns c =

@@ -1,5 +1,5 @@
 -- `set_up_sound` meets its contract, by its tests and the contract of `good_channels`. Assumes nothing.
-use mathlib.Core.Path.{◌≡◌, sym}
+use mathlib.Core.Path.{◌≡◌, sym, ◌∙◌}
 use mathlib.Core.Bool.{true, false}
 use mathlib.Core.List.{List}
 use Prim.Native.Nat.{ℕ, ◌-◌, ◌≤◌}
@@ -7,7 +7,7 @@ use native.Mathlib.Omega.{arith}
 use borrow.Author.Tests.{le-leb}
 use lib.Dec.{leb}
 use lib.ListN.{take}
-use Rattle.octets.proofs.Tests.{tests, denied, granted}
+use Rattle.octets.proofs.Tests.{tests, granted}
 use Rattle.state.specs.Decision.{good_channels, set_up_sound}
 use Rattle.state.proofs.Walk.{from_zero}
 use Rattle.sound.proofs.set_up_sound.Goals as goal
@@ -32,7 +32,7 @@ returns-then-channels-gt-MOST_CHANNELS c = search tests
 
 pub returns-then-not-good_channels : goal.returns-then-not-good_channels
 returns-then-not-good_channels c =
-    sym (unnamed _ c.args.names _ (omega arith) (denied c.good_channels.ensures c.if-not-good_channels.true-raw))
+    sym (unnamed _ c.args.names _ (omega arith) (sym c.good_channels.ensures ∙ c.if-not-good_channels.true))
 
 pub returns-then-blocks-eq0 : goal.returns-then-blocks-eq0
 returns-then-blocks-eq0 c =

@@ -1,5 +1,5 @@
+use mathlib.Core.Path.{sym, ◌∙◌}
 use native.Mathlib.Omega.{arith}
-use Rattle.octets.proofs.Tests.{granted}
 use Rattle.stream.proofs.Stretches.{scanned, leaps-found, leaps-nowhere}
 use Rattle.stream.proofs.leap.Goals as goal
 
@@ -18,5 +18,5 @@ returns-in-Nowhere c =
     let a = c.args in
     leaps-nowhere a.portion.now a.k a.from a.v (omega arith) (omega arith) _ _ _
     (λ i. (c.type_inv.portion i).fits)
-    (granted c.is_quiet.ensures c.if-not-is_quiet.false-raw) c.scan-s.ensures
+    (sym c.is_quiet.ensures ∙ c.if-not-is_quiet.false) c.scan-s.ensures
     c.in-Nowhere.is c.u32_at.ensures
