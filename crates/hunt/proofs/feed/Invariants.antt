@@ -6,8 +6,8 @@ use lib.ListN.{length}
 use Rattle.hunt.proofs.Portions.{Going}
 use Rattle.hunt.proofs.feed.Given as goal
 
-abbrev pub invariant-loop-r : goal.invariant-loop-r
-invariant-loop-r l = Going l.initial.t l.portion l.initial.unit l.unit l.t l.at l.frames × (length l.unit ≡ length l.initial.unit) × (length l.t.octets ≡ 1024)
+abbrev pub invariant-loop-output : goal.invariant-loop-output
+invariant-loop-output l = Going l.initial.t l.portion l.initial.unit l.unit l.t l.at l.frames × (length l.unit ≡ length l.initial.unit) × (length l.t.octets ≡ 1024)
 
-abbrev pub decreases-loop-r : goal.decreases-loop-r
-decreases-loop-r l = length l.portion - l.at
+abbrev pub decreases-loop-output : goal.decreases-loop-output
+decreases-loop-output l = length l.portion - l.at

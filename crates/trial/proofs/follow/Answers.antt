@@ -9,13 +9,13 @@ use Rattle.trial.proofs.follow.Goals as goal
 pub obey-w-requires : goal.obey-w-requires
 obey-w-requires c =
     let got = subst Fetches c.in-Octets.is c.fetch-f.ensures in
-    ((search rules, search rules, search rules), (got.0, search (rules, got.1)))
+    record { desks_in_bounds = (search rules, search rules, search rules); x_value = (got.0, search (rules, got.1)) }
 
 pub overflow_add-n : goal.overflow_add-n
-overflow_add-n c = omega (arith, c.type_inv.payload.true)
+overflow_add-n c = omega (arith, c.loop-n-test.true)
 
 pub loop-n-smaller : goal.loop-n-smaller
-loop-n-smaller c = omega (arith, c.type_inv.payload.true)
+loop-n-smaller c = omega (arith, c.loop-n-test.true)
 
 pub loop-n-preserved : goal.loop-n-preserved
 loop-n-preserved c =

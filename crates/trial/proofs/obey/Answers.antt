@@ -16,14 +16,17 @@ carry_out-r-requires c =
     let a = c.args in
     let pre = c.requires in
     let fits : a.k - 0 ≤ length a.payload.now = omega arith in
-    ((search rules, search rules, search rules), pre.1.0 ∙ ap Octets (sym (length-take-le (a.k - 0) a.payload.now fits ∙ sub-zero a.k)))
+    record {
+      desks_in_bounds = (search rules, search rules, search rules);
+      x_value = pre.x_value.0 ∙ ap Octets (sym (length-take-le (a.k - 0) a.payload.now fits ∙ sub-zero a.k));
+    }
 
 pub returns : goal.returns
 returns c =
     let a = c.args in
     let pre = c.requires in
     let e = rw (sub-zero a.k) at c.carry_out-r.ensures.store_after in
-    let within = lent-within a.x (take a.k a.payload.now) (memory a.w a.desks.now a.store.now) (pre.0.0, pre.0.1) in
+    let within = lent-within a.x (take a.k a.payload.now) (memory a.w a.desks.now a.store.now) (pre.desks_in_bounds.0, pre.desks_in_bounds.1) in
     let desks = ap (λ (o : Memory). o.desks_lent) e in
     let store = ap (λ (o : Memory). o.store_lent) e in
     record {

@@ -14,7 +14,7 @@ returns-then-letter-eq66 c =
     let a = c.args in
     let law = by-b a.x a.portion.now (memory a.h a.buffer.now) c.if-letter-eq66.true in
     let e = c.begin.ensures in
-    (ap (λ (g : Hunter). memory g a.buffer.now) e.0 ∙ sym law.0, (e.1.0, rw law.1 e.1.1))
+    record { buffer_after = ap (λ (g : Hunter). memory g a.buffer.now) e.hunter_value ∙ sym law.0; end_bound = (e.end_bound.0, rw law.1 e.end_bound.1) }
 
 pub hunt-requires : goal.hunt-requires
 hunt-requires c = (omega (arith, hunt-limit c.args.x c.requires.2 c.if-letter-eq78.true), search rules)
@@ -24,14 +24,14 @@ returns-then-letter-eq78 c =
     let a = c.args in
     let law = by_n a.x a.portion.now (memory a.h a.buffer.now) c.if-letter-eq78.true in
     let e = c.hunt.ensures in
-    (e.0 ∙ sym law.0, (e.1.0, rw law.1 e.1.1))
+    record { buffer_after = e.buffer_after ∙ sym law.0; end_bound = (e.end_bound.0, rw law.1 e.end_bound.1) }
 
 pub returns-then-letter-eq72 : goal.returns-then-letter-eq72
 returns-then-letter-eq72 c =
     let a = c.args in
     let law = by-h a.x a.portion.now (memory a.h a.buffer.now) c.if-letter-eq72.true in
     let e = c.show.ensures in
-    (ap (λ (g : Hunter). memory g a.buffer.now) e.0 ∙ sym law.0, (e.1.0, rw law.1 e.1.1))
+    record { buffer_after = ap (λ (g : Hunter). memory g a.buffer.now) e.hunter_value ∙ sym law.0; end_bound = (e.end_bound.0, rw law.1 e.end_bound.1) }
 
 pub returns : goal.returns
 returns c =

@@ -9,6 +9,6 @@ returns c =
     let e = c.begin-a.ensures in
     let m = c.noted.ensures in
     record {
-      buffer_after = wrote-done begun a.h a.buffer.now e m.0.0 m.0.1;
-      says = wrote-said begun a.h a.buffer.now e m.1;
+      buffer_after = wrote-done begun a.h a.buffer.now e m.lent_value.0 m.lent_value.1;
+      says = wrote-said begun a.h a.buffer.now e m.says;
     }

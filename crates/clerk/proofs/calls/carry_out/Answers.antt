@@ -12,6 +12,6 @@ returns c =
     let done = c.act-a.ensures in
     let line = c.said_line-end.ensures in
     record {
-      buffer_after = done.0;
-      end_bound = (line.0, rw done.1.gives at line.1);
+      buffer_after = done.buffer_after;
+      end_bound = (line.0, rw done.says.gives at line.1);
     }

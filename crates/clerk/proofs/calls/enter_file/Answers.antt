@@ -10,6 +10,6 @@ returns c =
     let e = (rw c.facts_in.ensures at c.enter-a.ensures) in
     let m = c.noted.ensures in
     record {
-      buffer_after = wrote-done (λ b. file_entered b a.h.used (facts_in a.x) a.file.now) a.h a.buffer.now e m.0.0 m.0.1;
-      says = wrote-said (λ b. file_entered b a.h.used (facts_in a.x) a.file.now) a.h a.buffer.now e m.1;
+      buffer_after = wrote-done (λ b. file_entered b a.h.used (facts_in a.x) a.file.now) a.h a.buffer.now e m.lent_value.0 m.lent_value.1;
+      says = wrote-said (λ b. file_entered b a.h.used (facts_in a.x) a.file.now) a.h a.buffer.now e m.says;
     }
