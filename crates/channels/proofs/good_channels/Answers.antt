@@ -1,6 +1,5 @@
 -- `good_channels` meets its contract. The loop's invariant: the channels are distinct and 0 to 62 exactly if those from place i on are. The
 -- measure is what is left of the list. Assumes nothing.
--- what the first channel says
 use mathlib.Core.Path.{◌≡◌, refl, sym, ap, ◌∙◌}
 use mathlib.Core.Bool.{true, false}
 use mathlib.Core.List.{List, ◌∷◌}
@@ -13,6 +12,7 @@ use Rattle.state.specs.Decision.{among, distinct_channels, good_channels}
 use Rattle.state.proofs.Walk.{begins-at, behind, settled, passed, ended}
 use Rattle.channels.proofs.good_channels.Goals as goal
 
+-- what the first channel says
 module _ (c : ℕ) (cs : List ℕ) where
   high : 62 < c → distinct_channels (c ∷ cs) ≡ false
   unfolding distinct_channels

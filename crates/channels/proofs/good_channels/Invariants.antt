@@ -1,6 +1,5 @@
 -- `good_channels` meets its contract. The loop's invariant: the channels are distinct and 0 to 62 exactly if those from place i on are. The
 -- measure is what is left of the list. Assumes nothing.
--- what the first channel says
 use Prim.Native.Nat.{ℕ, ◌-◌}
 use lib.ListN.{length}
 use Rattle.state.specs.Decision.{distinct_channels}

@@ -1,6 +1,5 @@
 -- `are_desks_sound` meets its contract. The loop's invariant: the octets of the first n desks are sound exactly if those from number i on
 -- are. The measure is what is left of the n. Assumes nothing.
--- the octets of desk i, as the code cuts them out
 use mathlib.Core.Path.{◌≡◌, refl, ap, ap₂, sym, ◌∙◌}
 use mathlib.Core.Bool.{true}
 use mathlib.Core.List.{List}
@@ -23,6 +22,7 @@ use Rattle.state.proofs.Exactly.{desk-exactly}
 use Rattle.state.proofs.Walk.{begins, settled, passed, ended}
 use Rattle.desks.proofs.are_desks_sound.Goals as goal
 
+-- the octets of desk i, as the code cuts them out
 abbrev cut_out : ℕ → List ℕ → List ℕ
 cut_out i desks = part (i * 8198) (i * 8198 + 8198 - i * 8198) desks
 

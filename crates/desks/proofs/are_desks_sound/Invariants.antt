@@ -1,6 +1,5 @@
 -- `are_desks_sound` meets its contract. The loop's invariant: the octets of the first n desks are sound exactly if those from number i on
 -- are. The measure is what is left of the n. Assumes nothing.
--- the octets of desk i, as the code cuts them out
 use mathlib.Core.List.{List}
 use Prim.Native.Nat.{ℕ, ◌-◌}
 use lib.ListN.{take}

@@ -1,5 +1,4 @@
 -- `desk_holds` meets its contract, by its tests and the contract of `Counter::checked`. Assumes nothing.
--- what the tests behind the first say
 use mathlib.Core.Path.{◌≡◌, sym, ◌∙◌}
 use mathlib.Core.Bool.{true, false}
 use Prim.Native.Nat.{◌≤◌, ◌<◌}
@@ -13,6 +12,7 @@ use Rattle.state.specs.declared.Desk.{Desk}
 use Rattle.state.specs.Decision.{desk_holds}
 use Rattle.desks.proofs.desk_holds.Goals as goal
 
+-- what the tests behind the first say
 module _ (d : Desk) (few : d.held ≤ 8197) where
   high : 0x1000000 ≤ d.counter.0 → desk_holds d ≡ false
   unfolding desk_holds

@@ -1,5 +1,4 @@
 -- `ask` meets its contract, test after test. Assumes nothing.
--- where the first test was passed
 use mathlib.Core.Path.{◌≡◌, sym, ◌∙◌}
 use mathlib.Core.Bool.{true}
 use native.Mathlib.Omega.{arith}
@@ -8,6 +7,7 @@ use Rattle.station.proofs.Asking.{asked-unsound, asked-high, asked-free, asked-c
 use Rattle.files.proofs.ask.Goals as goal
 use Rattle.files.proofs.ask.Goals.{Else-not-is_sound}
 
+-- where the first test was passed
 sound : (e : Else-not-is_sound) → is_sound e.args.s ≡ true
 sound e = sym e.is_sound.ensures ∙ e.if-not-is_sound.false
 

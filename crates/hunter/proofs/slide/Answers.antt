@@ -1,4 +1,3 @@
--- what is known of the hunter at the start
 use mathlib.Core.Path.{◌≡◌, sym, ◌∙◌}
 use Prim.Native.Nat.{ℕ, ◌-◌, ◌<◌}
 use native.Mathlib.Omega.{arith}
@@ -11,6 +10,7 @@ use Rattle.hunter.proofs.Hunting.{sought-at, sought-nowhere, Started}
 use Rattle.hunter.proofs.slide.Goals as goal
 use Rattle.hunter.proofs.slide.Goals.{After-seek-s, In-At, Start}
 
+-- what is known of the hunter at the start
 size : (c : Start) → length c.args.h.octets ≡ 1024
 size c = search rules
 

@@ -1,5 +1,4 @@
 -- `tally_block` meets its contract, by the law of one block more. Assumes nothing.
--- the block's owner
 use mathlib.Core.Path.{refl}
 use Prim.Native.Nat.{◌<◌}
 use native.Mathlib.Omega.{arith}
@@ -8,6 +7,7 @@ use Rattle.owners.proofs.Counts.{Tallied, tallied-more, tallied-few}
 use Rattle.owners.proofs.tally_block.Goals as goal
 use Rattle.owners.proofs.tally_block.Goals.{Start}
 
+-- the block's owner
 low : (c : Start) → get_or c.args.owner.now c.args.b 0 < 256
 low c = omega (arith, c.type_inv.owner c.args.b)
 

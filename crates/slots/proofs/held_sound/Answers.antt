@@ -1,6 +1,5 @@
 -- `held_sound` meets its contract, by its tests in the paper's order and the contracts of `among`, `good_length` and `Count::checked`.
 -- Assumes nothing.
--- a held slot, test after test
 use mathlib.Core.Path.{◌≡◌, sym}
 use mathlib.Core.Bool.{true, false}
 use mathlib.Core.List.{List}
@@ -17,6 +16,7 @@ use Rattle.state.specs.Slots.{held, need_of}
 use Rattle.state.specs.Decision.{among, slot_sound}
 use Rattle.slots.proofs.held_sound.Goals as goal
 
+-- a held slot, test after test
 module _ (channels : List ℕ) (n : ℕ) (x : Slot) (h : held x ≡ true) where
   over : need_of x < x.accepted → slot_sound channels n x ≡ false
   unfolding slot_sound

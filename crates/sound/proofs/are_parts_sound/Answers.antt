@@ -1,5 +1,4 @@
 -- `are_parts_sound` meets its contract: each of the paper's clauses by the contract of the function that decides it. Assumes nothing.
--- a set-up that is right bounds the channels and the blocks
 use mathlib.Core.Path.{◌≡◌, sym, ◌∙◌}
 use mathlib.Core.Bool.{Bool, true, false, ◌&&◌}
 use mathlib.Core.List.{List, map}
@@ -19,6 +18,7 @@ use Rattle.state.specs.Decision.{good_channels, set_up_sound, is_owner, block_co
 use Rattle.state.proofs.Walk.{from_zero}
 use Rattle.sound.proofs.are_parts_sound.Goals as goal
 
+-- a set-up that is right bounds the channels and the blocks
 module _ (channels : ℕ) (names : List ℕ) (blocks : ℕ) (e : set_up_sound channels names blocks ≡ true) where
   set-few : channels ≤ 8
   unfolding set_up_sound

@@ -1,6 +1,5 @@
 -- `numbers` meets its contract. The loop's invariant: the numbers stored so far, and those of the channels from place i on, are the numbers
 -- of all. The measure is what is left of the eight. Assumes nothing.
--- a list that is filled with what f makes of another
 use mathlib.Core.Path.{◌≡◌, refl, sym, ◌∙◌}
 use mathlib.Core.List.{List, ◌++◌, map, append-nil}
 use Prim.Native.Nat.{ℕ, ◌+◌, ◌≤◌, ◌<◌}
@@ -13,6 +12,7 @@ use Rattle.octets.proofs.Lists.{unmap}
 use Rattle.state.specs.Slots.{number}
 use Rattle.sound.proofs.numbers.Goals as goal
 
+-- a list that is filled with what f makes of another
 module _ {A B : Type 0} (f : A → B) (xs : List A) (out : List B) (i : ℕ) {all : List B} (e : all ≡ take i out ++ map f (drop i xs)) where
   map_more : (d : A) → i < length xs → i < length out → all ≡ take (i + 1) (set out i (f (get_or xs i d))) ++ map f (drop (i + 1) xs)
   map_more d h k = e ∙ rw (drop-cons xs i d h, add-one i, take-suc-set out i (f (get_or xs i d)) k, append_snoc)

@@ -1,6 +1,5 @@
 -- `numbers` meets its contract. The loop's invariant: the numbers stored so far, and those of the channels from place i on, are the numbers
 -- of all. The measure is what is left of the eight. Assumes nothing.
--- a list that is filled with what f makes of another
 use mathlib.Core.Path.{◌≡◌}
 use mathlib.Core.List.{◌++◌, map}
 use Prim.Native.Nat.{◌-◌, ◌≤◌}

@@ -1,6 +1,5 @@
 -- `watch` meets its contract: the constructor takes each of the good channels. The loop's invariant: the channels stored so far, those from place i
 -- on, and what stands behind them all are what is wanted. The measure is what is left of the channels. Assumes nothing.
--- a list whose first part is filled with what f makes of another
 use mathlib.Core.Path.{◌≡◌, refl, sym, ap, ◌∙◌}
 use mathlib.Core.List.{List, ◌++◌, map, append-nil}
 use Prim.Native.Nat.{ℕ, zero, suc, ◌+◌, ◌-◌, ◌≤◌, ◌<◌}
@@ -16,6 +15,7 @@ use Rattle.station.specs.SetUp.{channel_of}
 use Rattle.station.proofs.Fresh.{few-channels, low-channels}
 use Rattle.station.proofs.watch.Goals as goal
 
+-- a list whose first part is filled with what f makes of another
 module _ {A B : Type 0} (f : A → B) (xs : List A) (out : List B) (i : ℕ) {all : List B} (e : all ≡ take i out ++ map f (drop i xs) ++ drop (length xs) out) where
   map_more : (d : A) {v : B} → v ≡ f (get_or xs i d) → i < length xs → length xs ≤ length out
       → all ≡ take (i + 1) (set out i v) ++ map f (drop (i + 1) xs) ++ drop (length xs) (set out i v)

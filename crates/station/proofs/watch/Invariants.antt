@@ -1,6 +1,5 @@
 -- `watch` meets its contract: the constructor takes each of the good channels. The loop's invariant: the channels stored so far, those from place i
 -- on, and what stands behind them all are what is wanted. The measure is what is left of the channels. Assumes nothing.
--- a list whose first part is filled with what f makes of another
 use mathlib.Core.Path.{◌≡◌}
 use mathlib.Core.List.{◌++◌, map}
 use Prim.Native.Nat.{◌-◌, ◌≤◌}

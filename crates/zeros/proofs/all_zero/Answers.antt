@@ -1,5 +1,4 @@
 -- `zeros::all_zero` meets its contract, by those of `four_zero` and `run_zero`. Assumes nothing.
--- the stretch from a up to f, whose first four quarters, each of q octets, are told
 use mathlib.Core.Path.{◌≡◌, sym, ◌∙◌}
 use mathlib.Core.Bool.{Bool, true, false, ◌&&◌}
 use mathlib.Core.List.{List}
@@ -13,6 +12,7 @@ use Rattle.octets.proofs.Tests.{denied, granted}
 use Rattle.octets.proofs.Zero.{all_zero-five}
 use Rattle.zeros.proofs.all_zero.Goals as goal
 
+-- the stretch from a up to f, whose first four quarters, each of q octets, are told
 module _ (s : List ℕ) (a q f : ℕ) (h : a + q + q + q + q ≤ f) where
   abbrev quarters : Bool
   quarters =
