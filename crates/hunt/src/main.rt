@@ -14,7 +14,7 @@ ghost use Rattle.hunt.specs.Tally.{Tallied, Fresh};
 
 use frame::Frame;
 use std::env::{Env, FillError};
-use std::io::{Stderr, Stdout};
+use std::io::{Stderr, Stdin, Stdout};
 use stream::Hunter;
 
 // A k that no hunter begins with.
@@ -53,6 +53,14 @@ fn chosen(words: usize, first: &[u8]) -> u8
         return NO_K;
     }
     digit - b'0'
+}
+
+// Where the octets come from, where the frames go, and where the last line goes.
+#[derive(Clone, Copy)]
+pub struct Streams {
+    input: Stdin,
+    output: Stdout,
+    errors: Stderr,
 }
 
 // What a portion gave: how many frames, and the hunter behind it.
@@ -96,7 +104,7 @@ pub struct Tally {
 }
 
 // The input, portion by portion. Nothing says that an input ends, and a proved loop has to: it stops at a number of octets that no run comes to.
-fn follow(rt: HostRuntime, h: Hunter, input: &mut [u8], unit: &mut [u8]) -> Tally
+fn follow(streams: Streams, h: Hunter, input: &mut [u8], unit: &mut [u8]) -> Tally
     requires { Fresh h × (length input.old ≡ 65536) × (length unit.old ≡ 1024) }
     ensures { Tallied h.k result }
 {
@@ -107,11 +115,11 @@ fn follow(rt: HostRuntime, h: Hunter, input: &mut [u8], unit: &mut [u8]) -> Tall
         waiting: 0,
     };
     while all.read < NEVER {
-        let n = pipes::read_some(rt.stdin(), input);
+        let n = pipes::read_some(streams.input, input);
         if n == 0 {
             return all;
         }
-        let g = feed(rt.stdout(), t, &input[..n], unit);
+        let g = feed(streams.output, t, &input[..n], unit);
         let next = g.hunter;
         t = next;
         all.read += n as u64;
@@ -151,7 +159,7 @@ fn refusal(errors: Stderr, answer: u8, out: &mut [u8])
 
 // A run, from the command's words on: the input hunted through, and its line; or the line of the refusal.
 fn run(
-    rt: HostRuntime,
+    streams: Streams,
     words: usize,
     first: &[u8],
     input: &mut [u8],
@@ -164,13 +172,13 @@ fn run(
     let k = chosen(words, first);
     let b = stream::begin(k);
     if b.answer != 0 {
-        refusal(rt.stderr(), b.answer, out);
+        refusal(streams.errors, b.answer, out);
         return;
     }
     let fresh = b.hunter;
-    let t = follow(rt, fresh, input, unit);
+    let t = follow(streams, fresh, input, unit);
     let passed = passed_over(t);
-    end(rt.stderr(), t.frames, passed, t.waiting as u64, out);
+    end(streams.errors, t.frames, passed, t.waiting as u64, out);
 }
 
 // The octets of the word at a place behind the program's name; none where it is not there or longer than the buffer.
@@ -210,5 +218,17 @@ fn main(rt: HostRuntime) {
     let mut out = [0u8; LINE];
     let mut first = [0u8; ARGUMENT];
     let n = word(rt, 1, &mut first);
-    run(rt, count(rt), &first[..n], &mut input, &mut unit, &mut out);
+    let streams = Streams {
+        input: rt.stdin(),
+        output: rt.stdout(),
+        errors: rt.stderr(),
+    };
+    run(
+        streams,
+        count(rt),
+        &first[..n],
+        &mut input,
+        &mut unit,
+        &mut out,
+    );
 }
