@@ -15,7 +15,7 @@ use Rattle.stream.proofs.Sounding.{k-holding, waiting-holding}
 use Rattle.stream.proofs.Feeding.{fed-further}
 use Rattle.stream.proofs.Promised.{promises}
 use Rattle.hunt.specs.declared.Tally.{Tally}
-use Rattle.hunt.specs.Said.{refusal_line, end_line, stream_line, Says, Tells}
+use Rattle.hunt.specs.Said.{refusal_line, end_line, stream_line, Tells}
 use Rattle.hunt.specs.Said.Says.{refused, ended}
 use Rattle.hunt.specs.Tally.{Fresh, Tallied}
 

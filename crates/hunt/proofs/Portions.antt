@@ -10,7 +10,7 @@ use Rattle.octets.proofs.Lists.{whole-rest}
 use Rattle.stream.specs.declared.Hunter.{Hunter}
 use Rattle.stream.specs.declared.Hunted.{Hunted}
 use Rattle.stream.specs.Hunter.{HuntOutcome, gave_hunt, hunted}
-use Rattle.stream.specs.Feed.{Fed, no_frame, with_frame, after_frames, feed_in, feed}
+use Rattle.stream.specs.Feed.{no_frame, with_frame, after_frames, feed_in, feed}
 use Rattle.stream.proofs.Feeding.{feed-more, feed-done}
 use Rattle.stream.proofs.Promised.{found-takes}
 

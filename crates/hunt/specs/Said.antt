@@ -1,5 +1,5 @@
 -- The one line that a run says on standard error. Assumes nothing.
-use Rattle.std.specs.Prelude.{◌≡◌, List, [], ◌∷◌, ◌++◌, ℕ, ◌≤◌, ◌<◌, length}
+use Rattle.std.specs.Prelude.{◌≡◌, List, ◌++◌, ℕ, ◌≤◌, ◌<◌, length}
 use Rattle.octets.specs.Buffer.{put}
 use Rattle.text.specs.Pieces.{ascii, spaced}
 use Rattle.text.specs.Lines.{spaced_three, newline}

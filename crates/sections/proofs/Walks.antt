@@ -1,5 +1,5 @@
 -- Entries and sections by the places at which they begin. Assumes nothing.
-use mathlib.Core.Path.{◌≡◌, refl, sym, ap, ap₂, ◌∙◌}
+use mathlib.Core.Path.{◌≡◌, sym, ap, ap₂, ◌∙◌}
 use mathlib.Core.Bool.{Bool, true, false, ◌&&◌}
 use mathlib.Core.List.{List, [], ◌∷◌}
 use Prim.Native.Nat.{ℕ, zero, suc, ◌+◌, ◌*◌, ◌-◌, ◌<◌, ◌≤◌}
@@ -11,7 +11,7 @@ use lib.ListN.{length, drop, get_or, length-drop}
 use lib.Seq.{drop-drop}
 use Rattle.octets.specs.Number.{number_at}
 use Rattle.octets.proofs.Numbers.{number_at-drop}
-use Rattle.sections.specs.Sections.{Row, size, values, entries, extent, section_of, whole}
+use Rattle.sections.specs.Sections.{size, values, entries, extent, whole}
 
 -- the next entry
 pub entries_next : (ws s : List ℕ) (p n i : ℕ) → i < n

@@ -1,6 +1,5 @@
 -- `chase::follow` meets its contract. Assumes nothing.
 use mathlib.Core.Path.{refl, sym, ◌∙◌}
-use Prim.Native.Nat.{◌-◌}
 use native.Mathlib.Omega.{arith}
 use borrow.Author.Rules.{rules}
 use Rattle.script.proofs.Following.{following-none, following-ends, following-all, following-there, following-said, following-more}

@@ -1,7 +1,7 @@
 -- `hunt::feed` meets its contract. The invariant: the frames found, with what the rest of the portion is still to give, are what the portion gives.
 -- The measure is that rest, of which a call that found a frame took some. Assumes nothing.
 use mathlib.Core.Path.{refl, sym, ◌∙◌, ap}
-use Prim.Native.Nat.{◌+◌, ◌-◌, ◌≤◌, ◌<◌}
+use Prim.Native.Nat.{◌+◌, ◌≤◌, ◌<◌}
 use native.Mathlib.Omega.{arith}
 use borrow.Author.Rules.{rules}
 use borrow.Author.Tests.{not-true, not-false}

@@ -1,7 +1,6 @@
 -- `hunt::follow` meets its contract. The invariant: what was read is a stream, counted as far as it goes, and the hunter holds what waits of it.
 -- The measure is how far it is from a number that no run comes to. Assumes nothing.
 use mathlib.Core.Path.{sym}
-use Prim.Native.Nat.{◌-◌}
 use native.Mathlib.Omega.{arith}
 use borrow.Author.Rules.{rules}
 use lib.Seq.{length-take-le}

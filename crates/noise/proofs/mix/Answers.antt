@@ -1,10 +1,8 @@
 -- `noise::mix` meets its contract. The loop's invariant: what is wanted is what the periods that are left make of the buffer.
 -- Assumes nothing.
 use mathlib.Core.Path.{refl, ◌∙◌}
-use Prim.Native.Nat.{◌-◌}
 use native.Mathlib.Omega.{arith}
 use borrow.Author.Rules.{rules}
-use Rattle.noise.specs.Noise.{mixed}
 use Rattle.noise.proofs.Mixing.{frame-none, frame-more, frame-all}
 use Rattle.noise.proofs.mix.Goals as goal
 

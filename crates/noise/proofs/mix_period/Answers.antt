@@ -1,7 +1,6 @@
 -- `noise::mix_period` meets its contract. The loop's invariant: what is wanted is what the stores that are left make of the buffer.
 -- Assumes nothing.
 use mathlib.Core.Path.{refl}
-use Prim.Native.Nat.{◌-◌}
 use native.Mathlib.Omega.{arith}
 use lib.ListN.{length-set}
 use Rattle.octets.proofs.Put.{copy-none}

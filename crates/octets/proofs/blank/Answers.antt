@@ -1,6 +1,5 @@
 -- `octets::blank` meets its contract. The invariant: the zeros that are left, stored behind those that were, give what is promised. Assumes nothing.
 use mathlib.Core.Path.{refl}
-use Prim.Native.Nat.{◌-◌}
 use native.Mathlib.Omega.{arith}
 use lib.ListN.{length-set}
 use Rattle.octets.proofs.Put.{fill_none, fill_more, fill-all}

@@ -1,6 +1,5 @@
 -- `octets::copy` meets its contract. The invariant: what is left of src, stored behind what was copied, gives what is promised. Assumes nothing.
 use mathlib.Core.Path.{refl}
-use Prim.Native.Nat.{◌-◌}
 use native.Mathlib.Omega.{arith}
 use lib.ListN.{length-set}
 use Rattle.octets.proofs.Put.{copy-none, copy_more, copy-all}

@@ -1,7 +1,7 @@
 -- `octets::number` meets its contract. The invariant: the number read so far is the one in the octets passed, and has eight bits for each.
 -- Assumes nothing.
 use mathlib.Core.Path.{◌≡◌}
-use Prim.Native.Nat.{◌+◌, ◌-◌, ◌^◌, ◌<◌}
+use Prim.Native.Nat.{◌+◌, ◌^◌, ◌<◌}
 use native.Mathlib.Omega.{arith}
 use Rattle.octets.proofs.Numbers.{grow, free, number-none, number_more}
 use Rattle.octets.proofs.number.Goals as goal

@@ -1,7 +1,6 @@
 -- `octets::store` meets its contract. The invariant: what is left of the number, in the octets in front of those stored, gives what is promised.
 -- Assumes nothing.
 use mathlib.Core.Path.{refl}
-use Prim.Native.Nat.{◌-◌}
 use native.Mathlib.Omega.{arith}
 use lib.ListN.{length-set}
 use Rattle.octets.proofs.Storing.{store-more, store-all}

@@ -1,7 +1,7 @@
 -- `octets::store` meets its contract. The invariant: what is left of the number, in the octets in front of those stored, gives what is promised.
 -- Assumes nothing.
 use mathlib.Core.Path.{◌≡◌}
-use Prim.Native.Nat.{◌-◌, ◌≤◌}
+use Prim.Native.Nat.{◌≤◌}
 use lib.ListN.{length}
 use Rattle.octets.specs.Buffer.{put}
 use Rattle.octets.specs.Number.{in_octets}

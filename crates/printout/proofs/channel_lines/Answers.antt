@@ -1,5 +1,4 @@
 -- `printout::channel_lines` meets its contract. Assumes nothing.
-use Prim.Native.Nat.{◌-◌}
 use native.Mathlib.Omega.{arith}
 use borrow.Author.Rules.{rules}
 use Rattle.printout.proofs.Lines.{listing_none, listing-more, listing-all}

@@ -1,5 +1,4 @@
 -- `printout::file_lines` meets its contract. Assumes nothing.
-use Prim.Native.Nat.{◌-◌}
 use native.Mathlib.Omega.{arith}
 use borrow.Author.Rules.{rules}
 use Rattle.printout.proofs.Lines.{filing-none, filing-more, filing-all}

@@ -1,8 +1,7 @@
-use Prim.Native.Nat.{◌-◌, ◌*◌, ◌≤◌}
+use Prim.Native.Nat.{◌*◌, ◌≤◌}
 use native.Mathlib.Omega.{arith}
 use native.Mathlib.Nat.{mul-le-mul}
 use Rattle.sections.proofs.Walks.{fits_not, fits-so}
-use Rattle.octets.proofs.u16_at.Reads as u16-at-reads
 use Rattle.sections.proofs.fits.Goals as goal
 
 pub returns-then-left-lt2 : goal.returns-then-left-lt2

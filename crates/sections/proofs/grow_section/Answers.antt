@@ -1,10 +1,7 @@
-use Prim.Native.Nat.{◌+◌, ◌-◌}
+use Prim.Native.Nat.{◌+◌}
 use Rattle.octets.specs.Number.{in_octets}
 use Rattle.octets.proofs.Storing.{length-in_octets}
 use Rattle.sections.proofs.Growing.{grown}
-use Rattle.sections.proofs.shift.Reads as shift-reads
-use Rattle.octets.proofs.store.Reads as store-reads
-use Rattle.octets.proofs.copy.Reads as copy-reads
 use Rattle.sections.proofs.grow_section.Goals as goal
 
 pub returns : goal.returns

@@ -1,12 +1,9 @@
 use mathlib.Core.Path.{refl}
-use Prim.Native.Nat.{◌-◌}
 use native.Mathlib.Omega.{arith}
 use borrow.Author.Tests.{not-false}
 use Rattle.octets.specs.Number.{number_at}
 use Rattle.octets.proofs.Tests.{denied}
 use Rattle.sections.proofs.Chain.{chaining, chain-bad, chain-room, chain_more, chain-end}
-use Rattle.sections.proofs.fits.Reads as fits-reads
-use Rattle.octets.proofs.u16_at.Reads as u16-at-reads
 use Rattle.sections.proofs.is_sections.Goals as goal
 
 pub loop-k-init : goal.loop-k-init

@@ -1,8 +1,6 @@
 use Prim.Native.Nat.{◌-◌}
 use lib.ListN.{length}
 use Rattle.sections.proofs.Chain.{Chaining}
-use Rattle.sections.proofs.fits.Reads as fits-reads
-use Rattle.octets.proofs.u16_at.Reads as u16-at-reads
 use Rattle.sections.proofs.is_sections.Given as goal
 
 abbrev pub invariant-loop-k : goal.invariant-loop-k

@@ -1,4 +1,3 @@
-use Prim.Native.Nat.{◌-◌}
 use native.Mathlib.Omega.{arith}
 use Rattle.sections.proofs.Moves.{shift_none, shift-more, shift-all}
 use Rattle.sections.proofs.shift.Goals as goal

@@ -1,4 +1,3 @@
-use Prim.Native.Nat.{◌-◌}
 use Rattle.sections.proofs.Moves.{Shifting}
 use Rattle.sections.proofs.shift.Given as goal
 

@@ -1,7 +1,5 @@
-use Prim.Native.Nat.{◌-◌}
 use native.Mathlib.Omega.{arith}
 use Rattle.sections.proofs.Growing.{writing, write-room, write-more, write-end}
-use Rattle.octets.proofs.store.Reads as store-reads
 use Rattle.sections.proofs.write_row.Goals as goal
 
 pub loop-i-init : goal.loop-i-init

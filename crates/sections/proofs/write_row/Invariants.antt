@@ -1,7 +1,6 @@
 use Prim.Native.Nat.{◌-◌}
 use lib.ListN.{length}
 use Rattle.sections.proofs.Growing.{Writing}
-use Rattle.octets.proofs.store.Reads as store-reads
 use Rattle.sections.proofs.write_row.Given as goal
 
 abbrev pub invariant-loop-i : goal.invariant-loop-i

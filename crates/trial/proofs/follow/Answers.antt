@@ -1,6 +1,5 @@
 -- `trial::follow` is safe and ends. The measure is the number of commands that are left to count. Assumes nothing.
 use mathlib.Core.Path.{subst}
-use Prim.Native.Nat.{◌-◌}
 use native.Mathlib.Omega.{arith}
 use borrow.Author.Rules.{rules}
 use Rattle.trial.specs.Fetch.{Fetches}

@@ -1,5 +1,4 @@
 -- `clerk::answers::spaced_all` meets its contract. Assumes nothing.
-use Prim.Native.Nat.{◌-◌}
 use native.Mathlib.Omega.{arith}
 use borrow.Author.Rules.{rules}
 use Rattle.clerk.proofs.Saying.{spacing-none, spacing-more, spacing-all}
