@@ -4,8 +4,7 @@
 // the state, the store, and the event list behind the events already there.
 #![tactic(auto)]
 
-ghost use Rattle.std.specs.Prelude.{◌≡◌, false, [], ◌∷◌, suc, ◌+◌, ◌*◌, ◌≤◌, ◌<◌, eqb, length, get_or, set, take};
-ghost use Rattle.octets.specs.Choice.{if◌then◌else◌};
+ghost use Rattle.std.specs.Prelude.{◌≡◌, false, [], ◌∷◌, suc, ◌+◌, ◌*◌, ◌≤◌, ◌<◌, eqb, length, get_or, set, take, if◌then◌else◌};
 ghost use Rattle.octets.specs.Buffer.{put};
 ghost use Rattle.packet.specs.Header.{packet_of};
 ghost use Rattle.transport.specs.Length.{need};

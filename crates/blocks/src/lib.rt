@@ -4,8 +4,7 @@
 // changes. What that means for a state, and that it stays sound, is proved on the definitions (room proofs/Keeps.antt).
 #![tactic(auto)]
 
-ghost use Rattle.std.specs.Prelude.{◌≡◌, ◌≤◌, ◌<◌, length, get_or, take, eqb};
-ghost use Rattle.octets.specs.Choice.{if◌then◌else◌};
+ghost use Rattle.std.specs.Prelude.{◌≡◌, ◌≤◌, ◌<◌, length, get_or, take, eqb, if◌then◌else◌};
 ghost use Rattle.state.specs.Slots.{station_of};
 ghost use Rattle.state.specs.Blocks.{numbers_of};
 ghost use Rattle.room.specs.Move.{given, opened, let_go};

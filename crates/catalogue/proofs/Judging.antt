@@ -1,4 +1,5 @@
 -- What the reader's tests say together. Assumes nothing.
+use Rattle.std.specs.Prelude.{if◌then◌else◌}
 use mathlib.Core.Path.{◌≡◌, refl, sym, ap, ap₂, ◌∙◌, subst}
 use mathlib.Core.Bool.{Bool, true, false, not, ◌&&◌, and-false, false≢true}
 use mathlib.Core.List.{List, [], ◌∷◌, map}
@@ -10,7 +11,6 @@ use lib.Dec.{leb}
 use lib.ListN.{drop, get_or, replicate}
 use lib.Seq.{drop-drop}
 use Rattle.octets.specs.Number.{number_at}
-use Rattle.octets.specs.Choice.{if◌then◌else◌}
 use Rattle.octets.specs.Each.{each}
 use Rattle.octets.proofs.Tests.{and_left, denied, granted}
 use Rattle.catalogue.specs.declared.Places.{Places}

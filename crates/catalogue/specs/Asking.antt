@@ -1,6 +1,5 @@
 -- Questions to a catalogue: how many entries each section has, and an entry by its number, from 0. Assumes nothing.
-use Rattle.std.specs.Prelude.{List, [], ℕ, ltb, length, get_or}
-use Rattle.octets.specs.Choice.{if◌then◌else◌}
+use Rattle.std.specs.Prelude.{List, [], ℕ, ltb, length, get_or, if◌then◌else◌}
 use Rattle.sections.specs.Sections.{Row}
 use Rattle.catalogue.specs.declared.CatalogueRead.{CatalogueRead}
 use Rattle.catalogue.specs.declared.CatalogueRead.TheVariants as read

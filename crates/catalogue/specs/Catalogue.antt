@@ -1,7 +1,6 @@
 -- "A catalogue of the night" (02, 5/14): what is written for a list of files, in the paper's order and words, and the tests by which it is read.
 -- That they accept exactly what is written is proved (Promises.antt). Assumes nothing.
-use Rattle.std.specs.Prelude.{◌≡◌, Bool, true, false, ◌&&◌, List, [], ◌∷◌, ◌++◌, map, ℕ, zero, suc, ◌+◌, ◌^◌, ◌≤◌, ◌<◌, leb, ltb, eqb, length, get_or, drop}
-use Rattle.octets.specs.Choice.{if◌then◌else◌}
+use Rattle.std.specs.Prelude.{◌≡◌, Bool, true, false, ◌&&◌, List, [], ◌∷◌, ◌++◌, map, ℕ, zero, suc, ◌+◌, ◌^◌, ◌≤◌, ◌<◌, leb, ltb, eqb, length, get_or, drop, if◌then◌else◌}
 use Rattle.octets.specs.Each.{each}
 use Rattle.facts.specs.declared.Facts.{Facts}
 use Rattle.sections.specs.Sections.{Row, sections, section_of, extent, whole}

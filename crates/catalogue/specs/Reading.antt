@@ -1,6 +1,5 @@
 -- How the sections are got at: their places, and the counts of the channels in one pass. Means, all of it. Assumes nothing.
-use Rattle.std.specs.Prelude.{◌≡◌, true, List, [], ◌∷◌, ◌++◌, map, ℕ, ◌+◌, ◌*◌, ◌≤◌, ◌<◌, length, get_or, set, take, replicate}
-use Rattle.octets.specs.Choice.{if◌then◌else◌}
+use Rattle.std.specs.Prelude.{◌≡◌, true, List, [], ◌∷◌, ◌++◌, map, ℕ, ◌+◌, ◌*◌, ◌≤◌, ◌<◌, length, get_or, set, take, replicate, if◌then◌else◌}
 use Rattle.octets.specs.Number.{number_at}
 use Rattle.catalogue.specs.declared.Places.{Places}
 use Rattle.catalogue.specs.declared.Found.{Found}

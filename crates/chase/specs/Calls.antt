@@ -1,6 +1,5 @@
 -- What `chase` owns, and what a command does to it, by its letter. Assumes nothing.
-use Rattle.std.specs.Prelude.{not, List, ◌++◌, ℕ, ◌%◌, ◌^◌, eqb, take, drop, set}
-use Rattle.octets.specs.Choice.{if◌then◌else◌}
+use Rattle.std.specs.Prelude.{not, List, ◌++◌, ℕ, ◌%◌, ◌^◌, eqb, take, drop, set, if◌then◌else◌}
 use Rattle.stream.specs.declared.Hunter.{Hunter}
 use Rattle.stream.specs.Hunter.{HuntOutcome, begun_by, hunted}
 use Rattle.script.specs.declared.Command.{Command}

@@ -1,6 +1,5 @@
 -- What each command prints. Assumes nothing.
-use Rattle.std.specs.Prelude.{Bool, List, [], ◌∷◌, ◌++◌, ℕ, eqb}
-use Rattle.octets.specs.Choice.{if◌then◌else◌}
+use Rattle.std.specs.Prelude.{Bool, List, [], ◌∷◌, ◌++◌, ℕ, eqb, if◌then◌else◌}
 use Rattle.crc.specs.Crc.{crc_of}
 use Rattle.text.specs.Pieces.{spaced}
 use Rattle.text.specs.Lines.{spaced_three, newline}

@@ -1,6 +1,5 @@
 -- What `clerk` owns, and what a command does to it, by its letter. Assumes nothing.
-use Rattle.std.specs.Prelude.{List, ◌++◌, ℕ, ◌/◌, ◌%◌, ◌^◌, min, eqb, take, drop, set}
-use Rattle.octets.specs.Choice.{if◌then◌else◌}
+use Rattle.std.specs.Prelude.{List, ◌++◌, ℕ, ◌/◌, ◌%◌, ◌^◌, min, eqb, take, drop, set, if◌then◌else◌}
 use Rattle.octets.specs.Buffer.{put}
 use Rattle.script.specs.declared.Command.{Command}
 use Rattle.facts.specs.declared.Facts.{Facts}

@@ -1,7 +1,6 @@
 -- What each command prints. Assumes nothing.
-use Rattle.std.specs.Prelude.{◌≡◌, ℕ, ◌≤◌, min, eqb, take}
+use Rattle.std.specs.Prelude.{◌≡◌, ℕ, ◌≤◌, min, eqb, take, if◌then◌else◌}
 use mathlib.Core.List.{List, [], ◌∷◌, ◌++◌, flat_map}
-use Rattle.octets.specs.Choice.{if◌then◌else◌}
 use Rattle.crc.specs.Crc.{crc_of}
 use Rattle.text.specs.Pieces.{spaced}
 use Rattle.text.specs.Lines.{newline}

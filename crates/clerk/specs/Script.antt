@@ -1,6 +1,5 @@
 -- How many octets follow a command of the script. Assumes nothing.
-use Rattle.std.specs.Prelude.{Bool, ◌||◌, ℕ, ◌%◌, ◌^◌, eqb, leb}
-use Rattle.octets.specs.Choice.{if◌then◌else◌}
+use Rattle.std.specs.Prelude.{Bool, ◌||◌, ℕ, ◌%◌, ◌^◌, eqb, leb, if◌then◌else◌}
 use Rattle.script.specs.declared.Command.{Command}
 use Rattle.script.specs.declared.Payload.{Payload}
 use Rattle.script.specs.declared.Payload.TheVariants.{Octets, Refused}

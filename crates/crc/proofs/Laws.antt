@@ -1,4 +1,5 @@
 -- The register over joined octets, how large it can be, that data followed by its own check leaves it 0, and that zeros then do. Assumes nothing.
+use Rattle.std.specs.Prelude.{if◌then◌else◌}
 use mathlib.Core.Path.{◌≡◌, refl, sym, ap, ap₂, ◌∙◌}
 use mathlib.Core.Bool.{Bool, true, false}
 use mathlib.Core.List.{List, [], ◌∷◌, ◌++◌}
@@ -10,7 +11,6 @@ use lib.Bits.{bit_xor, xor_lt, xor_block, xor_self, xor_zero_r}
 use lib.Dec.{ltb}
 use lib.ListN.{length, drop, replicate, drop_of_length-le}
 use lib.Pow.{pow_pos}
-use Rattle.octets.specs.Choice.{if◌then◌else◌}
 use Rattle.crc.specs.Crc.{bit, shifted, octet, crc_from, crc_of}
 
 -- running over two parts is running over them joined

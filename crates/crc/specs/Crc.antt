@@ -1,7 +1,6 @@
 -- "x^16+x^12+x^5+1, start all ones, most significant bit first, no final inversion." Assumes nothing.
-use Rattle.std.specs.Prelude.{List, [], ◌∷◌, ℕ, zero, suc, ◌*◌, ◌%◌, ltb}
+use Rattle.std.specs.Prelude.{List, [], ◌∷◌, ℕ, zero, suc, ◌*◌, ◌%◌, ltb, if◌then◌else◌}
 use Rattle.std.specs.Int.Bits.{bit_xor}
-use Rattle.octets.specs.Choice.{if◌then◌else◌}
 
 -- one bit: the register of 16 bits moves up by one, and where a one falls out at the top x^12+x^5+1 is exclusive-ored in
 unfoldable pub bit : ℕ → ℕ

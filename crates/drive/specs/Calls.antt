@@ -1,6 +1,5 @@
 -- What S, F, R, L and I do, on the octets lent, and what a command does by its letter. Assumes nothing.
-use Rattle.std.specs.Prelude.{List, ◌++◌, ℕ, eqb, drop, replicate}
-use Rattle.octets.specs.Choice.{if◌then◌else◌}
+use Rattle.std.specs.Prelude.{List, ◌++◌, ℕ, eqb, drop, replicate, if◌then◌else◌}
 use Rattle.state.specs.declared.Station.{Station}
 use Rattle.station.specs.SetUp.{SetUpOutcome, set_up}
 use Rattle.station.specs.Frame.{FrameOutcome, framed}

@@ -1,6 +1,5 @@
 -- What each command prints. Assumes nothing.
-use Rattle.std.specs.Prelude.{List, [], ℕ, eqb}
-use Rattle.octets.specs.Choice.{if◌then◌else◌}
+use Rattle.std.specs.Prelude.{List, [], ℕ, eqb, if◌then◌else◌}
 use Rattle.lines.specs.Lines.{answer_line, frame_lines, read_line, let_go_line, told_line}
 use Rattle.show.specs.Shown.{shown}
 use Rattle.station.specs.Frame.{FrameOutcome}

@@ -1,6 +1,5 @@
 -- What stands in a frame ("Frames", 1 to 3). Assumes nothing.
-use Rattle.std.specs.Prelude.{Bool, true, false, ◌&&◌, List, [], ◌∷◌, ℕ, ◌<◌, ltb, eqb, take, drop}
-use Rattle.octets.specs.Choice.{if◌then◌else◌}
+use Rattle.std.specs.Prelude.{Bool, true, false, ◌&&◌, List, [], ◌∷◌, ℕ, ◌<◌, ltb, eqb, take, drop, if◌then◌else◌}
 use Rattle.octets.specs.Number.{part, bits_at}
 use Rattle.noise.specs.Noise.{mixed}
 use Rattle.frame.specs.declared.Frame.{Frame}

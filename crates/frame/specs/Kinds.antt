@@ -1,6 +1,5 @@
 -- Channel numbers and frame counters. Assumes nothing.
-use Rattle.std.specs.Prelude.{Bool, List, [], ◌∷◌, ℕ, suc, ◌+◌, ◌%◌, leb, ltb, eqb}
-use Rattle.octets.specs.Choice.{if◌then◌else◌}
+use Rattle.std.specs.Prelude.{Bool, List, [], ◌∷◌, ℕ, suc, ◌+◌, ◌%◌, leb, ltb, eqb, if◌then◌else◌}
 use Rattle.frame.specs.declared.Channel.{Channel}
 use Rattle.frame.specs.declared.CheckedChannel.{CheckedChannel}
 use Rattle.frame.specs.declared.CheckedChannel.TheVariants as channel

@@ -1,5 +1,6 @@
 -- What frames that are sent bring, as they come: the packet that is carried from zone to zone, and what is whole at its end. Assumes
 -- nothing.
+use Rattle.std.specs.Prelude.{if◌then◌else◌}
 use mathlib.Core.Path.{◌≡◌, refl, sym, ap, ap₂, subst, ◌∙◌}
 use mathlib.Core.Bool.{true, false}
 use mathlib.Core.Logic.{◌⊎◌, inl, inr, ⊎_elim}
@@ -10,7 +11,6 @@ use borrow.Author.Tests.{eq-eqb, ltb-true, ltb-false}
 use lib.Dec.{ltb}
 use lib.ListN.{length, take, get_or, replicate, length-append, length-replicate}
 use lib.Seq.{take_at, take_all, take-take, length-take-le, get_or-set_same, get_or-set_other}
-use Rattle.octets.specs.Choice.{if◌then◌else◌}
 use Rattle.octets.specs.Number.{number, bits_at, part}
 use Rattle.octets.proofs.Decide.{tells as said-true}
 use Rattle.octets.proofs.Lists.{if-cases, part-add}

@@ -1,6 +1,5 @@
 -- Frames as they are sent, octet for octet, for runs that can be written down (Guards.antt). Assumes nothing.
-use Rattle.std.specs.Prelude.{◌≡◌, List, [], ◌∷◌, ◌++◌, ℕ, zero, suc, ◌+◌, ◌-◌, ◌*◌, ◌/◌, ◌%◌, ltb, length, replicate}
-use Rattle.octets.specs.Choice.{if◌then◌else◌}
+use Rattle.std.specs.Prelude.{◌≡◌, List, [], ◌∷◌, ◌++◌, ℕ, zero, suc, ◌+◌, ◌-◌, ◌*◌, ◌/◌, ◌%◌, ltb, length, replicate, if◌then◌else◌}
 use Rattle.octets.specs.Number.{part}
 use Rattle.crc.specs.Crc.{crc_of}
 use Rattle.noise.specs.Noise.{mixed}

@@ -1,4 +1,5 @@
 -- Which event exactly when: the reasons of judge's law (`given-exactly`), at every moment of a run, in the words of the paper. Assumes nothing.
+use Rattle.std.specs.Prelude.{if◌then◌else◌}
 use mathlib.Core.Path.{◌≡◌, refl, sym, ap, subst, ◌∙◌}
 use mathlib.Core.Bool.{Bool, true, false, true≢false}
 use mathlib.Core.Logic.{◌↔◌, inl, inr, ⊎_elim}
@@ -9,7 +10,6 @@ use native.Mathlib.Decide.{ℕ_discrete, dec_lt}
 use native.Mathlib.Omega.{arith}
 use borrow.Author.Tests.{ne_eqb, eqb-false, not-true}
 use lib.Dec.{eqb}
-use Rattle.octets.specs.Choice.{if◌then◌else◌}
 use Rattle.octets.proofs.Decide.{told-true, told-false, tells, decides_not}
 use Rattle.crc.specs.Crc.{crc_of}
 use Rattle.frame.specs.declared.Channel.{Channel}

@@ -1,4 +1,5 @@
 -- The packets that went on with a file, in order; and when a file is complete. Assumes nothing.
+use Rattle.std.specs.Prelude.{if◌then◌else◌}
 use mathlib.Core.Path.{◌≡◌, refl, sym, ap, ◌∙◌}
 use mathlib.Core.Bool.{Bool, true, false, not, ◌&&◌}
 use mathlib.Core.List.{List, [], ◌∷◌}
@@ -7,7 +8,6 @@ use native.Mathlib.Omega.{arith}
 use borrow.Author.Tests.{not-true, leb-true, eq-eqb}
 use lib.Dec.{leb, eqb}
 use lib.ListN.{length}
-use Rattle.octets.specs.Choice.{if◌then◌else◌}
 use Rattle.octets.proofs.Lists.{if-true, if-false}
 use Rattle.octets.proofs.Decide.{told-false}
 use Rattle.frame.specs.declared.Channel.{Channel}

@@ -1,5 +1,6 @@
 -- The ledger's pages: the blocks of a held file begin with the data of its accepted packets, in order, and a complete file is those data
 -- joined, less the ten transport octets. Assumes nothing.
+use Rattle.std.specs.Prelude.{if◌then◌else◌}
 use mathlib.Core.Path.{◌≡◌, refl, sym, ap, subst, ◌∙◌}
 use mathlib.Core.Bool.{true, true≢false}
 use mathlib.Core.Logic.{⊎_elim}
@@ -11,7 +12,6 @@ use borrow.Author.Tests.{eq-eqb, ne_eqb, le-leb}
 use lib.Dec.{eqb}
 use lib.ListN.{length, take, drop, get_or, length-append, length-drop, get_or-append}
 use lib.Seq.{take-append_seam, get_or-append_seam, get_or-drop}
-use Rattle.octets.specs.Choice.{if◌then◌else◌}
 use Rattle.octets.specs.Number.{part}
 use Rattle.octets.proofs.Lists.{if-true, if-false, drop-take}
 use Rattle.packet.specs.Header.{packet_of}

@@ -1,4 +1,5 @@
 -- What one thing does to one slot, and that it is what the slot's fate says. Assumes nothing.
+use Rattle.std.specs.Prelude.{if◌then◌else◌}
 use mathlib.Core.Path.{◌≡◌, refl, sym, ap, subst, ◌∙◌}
 use mathlib.Core.Bool.{Bool, true, false, not, ◌&&◌, ◌||◌, true≢false}
 use mathlib.Core.Logic.{◌⊎◌, inl, inr, ⊎_elim}
@@ -8,7 +9,7 @@ use Prim.Native.Nat.{ℕ, ◌<◌}
 use native.Mathlib.Decide.{ℕ_discrete}
 use borrow.Author.Tests.{eq-eqb, ne_eqb, eqb-true, eqb-false}
 use lib.Dec.{eqb, leb}
-use Rattle.octets.specs.Choice.{if◌then◌else◌, Decides}
+use Rattle.octets.specs.Choice.{Decides}
 use Rattle.octets.proofs.Lists.{if-true, if-false, if-cases}
 use Rattle.octets.proofs.Decide.{told-true, tells, decides-same, decides-self, decides-leb, decides_eqb, ◌and◌, decides_or, decides_not}
 use Rattle.frame.specs.declared.Channel.{Channel}

@@ -1,7 +1,6 @@
 -- What becomes of a file by what happens after its first packet ("Packets", the two rules for a file). Only the slot that holds the file
 -- and the thing that happens are looked at: no store, no block, no other slot. Assumes nothing.
-use Rattle.std.specs.Prelude.{Bool, not, ◌&&◌, ◌||◌, List, [], ◌∷◌, ℕ, leb, eqb}
-use Rattle.octets.specs.Choice.{if◌then◌else◌}
+use Rattle.std.specs.Prelude.{Bool, not, ◌&&◌, ◌||◌, List, [], ◌∷◌, ℕ, leb, eqb, if◌then◌else◌}
 use Rattle.frame.specs.declared.Channel.{Channel}
 use Rattle.packet.specs.Header.{packet_of}
 use Rattle.state.specs.declared.Slot.{Slot}

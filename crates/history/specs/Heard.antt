@@ -1,7 +1,6 @@
 -- "Frames", 4 to 6, over all frames of a channel (Openings.antt has them over one): what was heard is a row of contiguous stretches of the zones
 -- of consecutive accepted frames, each from a place on that a pointer named. Assumes nothing.
-use Rattle.std.specs.Prelude.{◌≡◌, false, ◌&&◌, List, [], ◌∷◌, ◌++◌, ℕ, ◌+◌, ◌%◌, ◌<◌, eqb, drop}
-use Rattle.octets.specs.Choice.{if◌then◌else◌}
+use Rattle.std.specs.Prelude.{◌≡◌, false, ◌&&◌, List, [], ◌∷◌, ◌++◌, ℕ, ◌+◌, ◌%◌, ◌<◌, eqb, drop, if◌then◌else◌}
 use Rattle.frame.specs.declared.Channel.{Channel}
 use Rattle.events.specs.Event.{Event}
 use Rattle.station.specs.Frame.{channel_at}

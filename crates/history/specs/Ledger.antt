@@ -1,8 +1,7 @@
 -- The ledger: for each slot the data of the packets accepted for its file since it was opened, in order. Nobody keeps it but the theorems.
 -- It is made from the packets that are judged and the events that they give: event 10 that names the slot begins its page with the
 -- packet's data, 11 or 12 adds it, 6 empties it, and so does letting it go, if that is answered by 0. Assumes nothing.
-use Rattle.std.specs.Prelude.{Bool, false, ◌&&◌, ◌||◌, List, [], ◌∷◌, ◌++◌, ℕ, eqb}
-use Rattle.octets.specs.Choice.{if◌then◌else◌}
+use Rattle.std.specs.Prelude.{Bool, false, ◌&&◌, ◌||◌, List, [], ◌∷◌, ◌++◌, ℕ, eqb, if◌then◌else◌}
 use Rattle.state.specs.declared.Station.{Station}
 use Rattle.events.specs.Event.{Event}
 use Rattle.judge.specs.Judge.{Judged, data_of}

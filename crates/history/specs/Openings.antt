@@ -1,8 +1,7 @@
 -- "Frames", 4 to 6, over one frame: from where its octets are read, what is cut from them, and events 1, 2 and 3 exactly when their rules say.
 -- Neither `reading` nor `split`, which the calls' contracts use, stands here: this is the rule a second time, in other words. Assumes nothing.
-use Rattle.std.specs.Prelude.{◌≡◌, Bool, true, ◌⊎◌, ℕ, ◌+◌, ◌%◌, ◌≤◌, ◌<◌, eqb, length, drop}
+use Rattle.std.specs.Prelude.{◌≡◌, Bool, true, ◌⊎◌, ℕ, ◌+◌, ◌%◌, ◌≤◌, ◌<◌, eqb, length, drop, if◌then◌else◌}
 use mathlib.Core.List.{List, [], ◌∷◌, ◌++◌, flatten}
-use Rattle.octets.specs.Choice.{if◌then◌else◌}
 use Rattle.frame.specs.declared.Channel.{Channel}
 use Rattle.frame.specs.Header.{derandomised, frame_of, zone_of}
 use Rattle.packet.specs.declared.Packet.{Packet}

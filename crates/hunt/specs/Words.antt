@@ -1,6 +1,5 @@
 -- The k that the command's words choose. Assumes nothing.
-use Rattle.std.specs.Prelude.{◌&&◌, List, [], ◌∷◌, ℕ, ◌+◌, ◌-◌, ◌≤◌, leb, eqb}
-use Rattle.octets.specs.Choice.{if◌then◌else◌}
+use Rattle.std.specs.Prelude.{◌&&◌, List, [], ◌∷◌, ℕ, ◌+◌, ◌-◌, ◌≤◌, leb, eqb, if◌then◌else◌}
 
 -- `Chooses words first k`: so many words, the program's own name among them, of which this is the first behind it, choose k
 pub data Chooses : ℕ → List ℕ → ℕ → Type 0 where

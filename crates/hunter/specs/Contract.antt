@@ -1,6 +1,5 @@
 -- What the functions of the hunt are handed, and what they give. Assumes nothing.
-use Rattle.std.specs.Prelude.{◌≡◌, true, false, List, [], ◌∷◌, ◌++◌, ℕ, ◌+◌, ◌-◌, ◌/◌, ◌%◌, ◌≤◌, ◌<◌, ltb, length, take, drop, replicate}
-use Rattle.octets.specs.Choice.{if◌then◌else◌}
+use Rattle.std.specs.Prelude.{◌≡◌, true, false, List, [], ◌∷◌, ◌++◌, ℕ, ◌+◌, ◌-◌, ◌/◌, ◌%◌, ◌≤◌, ◌<◌, ltb, length, take, drop, replicate, if◌then◌else◌}
 use Rattle.stream.specs.declared.Hunter.{Hunter}
 use Rattle.stream.specs.declared.Hunted.{Hunted}
 use Rattle.stream.specs.Stream.{righted}

@@ -1,4 +1,5 @@
 -- What a packet does, case by case, so that no proof has to open the definitions; and what is known in each case. Assumes nothing.
+use Rattle.std.specs.Prelude.{if◌then◌else◌}
 use mathlib.Core.Path.{◌≡◌, refl, sym, subst, ◌∙◌}
 use mathlib.Core.Bool.{Bool, true, false, not, ◌&&◌}
 use mathlib.Core.Logic.{◌⊎◌, inl, inr, ⊎_elim}
@@ -9,7 +10,7 @@ use native.Mathlib.Omega.{arith}
 use borrow.Author.Tests.{ltb-true, ltb-false, leb-true, leb-false, eq-eqb, ne_eqb, lt-ltb, le-ltb, le-leb, lt-leb, not-false}
 use lib.Dec.{ltb, leb, eqb}
 use lib.ListN.{length, drop, length-take}
-use Rattle.octets.specs.Choice.{if◌then◌else◌, Decides}
+use Rattle.octets.specs.Choice.{Decides}
 use Rattle.octets.specs.Choice.Decides.{fails}
 use Rattle.octets.specs.Number.{part}
 use Rattle.octets.proofs.Lists.{if-cases, whole_part}

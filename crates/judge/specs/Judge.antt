@@ -1,6 +1,5 @@
 -- What one whole packet does to slots, blocks and store, and the events that it gives ("Packets"). Assumes nothing.
-use Rattle.std.specs.Prelude.{Bool, ◌||◌, List, [], ◌∷◌, ◌++◌, ℕ, ◌+◌, ◌-◌, ◌*◌, ltb, eqb, length, get_or}
-use Rattle.octets.specs.Choice.{if◌then◌else◌}
+use Rattle.std.specs.Prelude.{Bool, ◌||◌, List, [], ◌∷◌, ◌++◌, ℕ, ◌+◌, ◌-◌, ◌*◌, ltb, eqb, length, get_or, if◌then◌else◌}
 use Rattle.octets.specs.Number.{part, number_at}
 use Rattle.octets.specs.Buffer.{put}
 use Rattle.crc.specs.Crc.{crc_of}

@@ -1,7 +1,6 @@
 -- What is decided of a packet before anything is done, by its octets, its channel, the slots and the number of blocks; and what is done then.
 -- Means: Judge.antt has what a packet does, as the paper tells it, and that this is the same is proved (proofs/Rulings.antt). Assumes nothing.
-use Rattle.std.specs.Prelude.{List, [], ◌∷◌, ℕ, ◌-◌, ltb, get_or, set}
-use Rattle.octets.specs.Choice.{if◌then◌else◌}
+use Rattle.std.specs.Prelude.{List, [], ◌∷◌, ℕ, ◌-◌, ltb, get_or, set, if◌then◌else◌}
 use Rattle.events.specs.Event.{of, at}
 use Rattle.frame.specs.declared.Channel.{Channel}
 use Rattle.packet.specs.declared.Packet.{Packet}

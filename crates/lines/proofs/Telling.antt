@@ -1,4 +1,5 @@
 -- The lines of events, one behind the other, the three texts of a read, and the line of facts that are refused. Assumes nothing.
+use Rattle.std.specs.Prelude.{if◌then◌else◌}
 use mathlib.Core.Path.{◌≡◌, refl, sym, ap, subst, ◌∙◌}
 use mathlib.Core.Bool.{Bool, true, false, ◌&&◌}
 use mathlib.Core.List.{List, [], ◌∷◌, ◌++◌, append-nil, flat_map}
@@ -9,7 +10,6 @@ use borrow.Author.Tests.{eq-eqb, ne_eqb}
 use lib.Dec.{eqb}
 use lib.ListN.{length, get_or, drop}
 use lib.Seq.{drop-drop, get_or-drop}
-use Rattle.octets.specs.Choice.{if◌then◌else◌}
 use Rattle.text.specs.Pieces.{Written, spaced, in_hex}
 use Rattle.text.specs.Lines.{newline}
 use Rattle.text.proofs.Following.{Writing, begun, went_on, done}

@@ -1,7 +1,6 @@
 -- Whole lines: of events, of what a trial prints of a call (docs/TRIAL.md), and the last one of a program. Assumes nothing.
-use Rattle.std.specs.Prelude.{Bool, not, ◌&&◌, ℕ, zero, suc, eqb, length, get_or, drop}
+use Rattle.std.specs.Prelude.{Bool, not, ◌&&◌, ℕ, zero, suc, eqb, length, get_or, drop, if◌then◌else◌}
 use mathlib.Core.List.{List, [], ◌∷◌, ◌++◌, flat_map}
-use Rattle.octets.specs.Choice.{if◌then◌else◌}
 use Rattle.text.specs.Pieces.{spaced, in_hex}
 use Rattle.text.specs.Lines.{spaced_three, newline}
 

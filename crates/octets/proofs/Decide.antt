@@ -1,4 +1,5 @@
 -- What a test that decides a fact tells, and how such a test is made of others. Assumes nothing.
+use Rattle.std.specs.Prelude.{if◌then◌else◌}
 use mathlib.Core.Path.{◌≡◌, refl, sym, subst}
 use mathlib.Core.Bool.{Bool, true, false, not, ◌&&◌, ◌||◌, true≢false, false≢true}
 use mathlib.Core.Logic.{◌↔◌, ◌⊎◌, inl, inr, ⊎_elim}
@@ -6,7 +7,7 @@ use Prim.Native.Nat.{ℕ, suc, ◌≤◌, ◌<◌}
 use native.Mathlib.Omega.{arith}
 use borrow.Author.Tests.{leb-true, leb-false, ltb-true, ltb-false, eqb-true, eqb-false}
 use lib.Dec.{leb, ltb, eqb}
-use Rattle.octets.specs.Choice.{if◌then◌else◌, Decides}
+use Rattle.octets.specs.Choice.{Decides}
 use Rattle.octets.specs.Choice.Decides.{holds, fails}
 use Rattle.octets.proofs.Below.{Below, Some, Apart, below-cons, below-tail, some-cons, some-case, apart_cons, apart-head, apart-tail}
 

@@ -1,4 +1,5 @@
 -- Laws of lists and of choices that the library does not have. Assumes nothing.
+use Rattle.std.specs.Prelude.{if◌then◌else◌}
 use mathlib.Core.Path.{◌≡◌, refl, sym, ap, ap₂, ◌∙◌}
 use mathlib.Core.Bool.{Bool, true, false}
 use mathlib.Core.Logic.{◌⊎◌, inl, inr, ⊎_elim}
@@ -9,7 +10,6 @@ use native.Mathlib.Nat.{zero-add, suc-add, sub-zero}
 use native.Mathlib.Omega.{arith}
 use lib.ListN.{length, take, drop, get_or, replicate, length-map, length-append, length-drop, take-append-drop}
 use lib.Seq.{length-take-le, take_all, get_or-take, get_or-drop, take-take, take-add, take-nil, drop-drop, take-append-le, drop-append-le, drop-append-add}
-use Rattle.octets.specs.Choice.{if◌then◌else◌}
 use Rattle.octets.specs.Number.{part}
 
 -- one of some, and of others

@@ -1,9 +1,9 @@
 -- What is decided by a list of reasons: what was to be done where none applies, else what the first that does refuses. Assumes nothing.
+use Rattle.std.specs.Prelude.{if◌then◌else◌}
 use mathlib.Core.Path.{◌≡◌, refl, ap, ◌∙◌}
 use mathlib.Core.Bool.{Bool, true, false}
 use mathlib.Core.List.{List, [], ◌∷◌, ◌++◌}
 use Prim.Native.Nat.{ℕ, ◌≤◌}
-use Rattle.octets.specs.Choice.{if◌then◌else◌}
 use Rattle.octets.specs.Reasons.{Reason, decided}
 use Rattle.octets.specs.Reasons.Reason.{◌when◌}
 use Rattle.octets.proofs.Lists.{if-cases, if-map}

@@ -1,4 +1,4 @@
--- Octets: how definitions choose, numbers in octets, buffers after a run of stores, and tables by a rule.
+-- Octets: what a test decides, numbers in octets, buffers after a run of stores, and tables by a rule.
 
 -- The paper: numbers most significant octet first, and "the lowest number that applies".
 pub mod Number

@@ -1,7 +1,6 @@
 -- "Numbers are unsigned and most significant octet first unless said otherwise." Assumes nothing.
-use Rattle.std.specs.Prelude.{List, [], ◌∷◌, ◌++◌, ℕ, zero, suc, ◌+◌, ◌-◌, ◌*◌, ◌/◌, ◌%◌, ◌^◌, ◌<◌, eqb, ltb, length, take, drop, get_or, ℤ, pos}
+use Rattle.std.specs.Prelude.{List, [], ◌∷◌, ◌++◌, ℕ, zero, suc, ◌+◌, ◌-◌, ◌*◌, ◌/◌, ◌%◌, ◌^◌, ◌<◌, eqb, ltb, length, take, drop, get_or, ℤ, pos, if◌then◌else◌}
 use Rattle.std.proofs.Math.IntN.{sub_ℕ}
-use Rattle.octets.specs.Choice.{if◌then◌else◌}
 
 -- each of xs is an octet, a number below 256; past the end stands 0
 abbrev pub Octets : List ℕ → Type 0

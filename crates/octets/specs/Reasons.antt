@@ -1,7 +1,6 @@
 -- "The lowest number that applies is given": reasons to refuse, in the order in which they are tried, each a number with the test that it
 -- applies. Assumes nothing.
-use Rattle.std.specs.Prelude.{Bool, false, ◌&&◌, ◌||◌, List, [], ◌∷◌, ℕ, eqb}
-use Rattle.octets.specs.Choice.{if◌then◌else◌}
+use Rattle.std.specs.Prelude.{Bool, false, ◌&&◌, ◌||◌, List, [], ◌∷◌, ℕ, eqb, if◌then◌else◌}
 
 infix 70 ◌when◌
 pub data Reason : Type 0 where

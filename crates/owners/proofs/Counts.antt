@@ -1,5 +1,6 @@
 -- The pass over a table of owners, block by block, and what its tally tells: whether each owner is a slot or none, and how many blocks each
 -- slot owns. Assumes nothing.
+use Rattle.std.specs.Prelude.{if◌then◌else◌}
 use mathlib.Core.Path.{◌≡◌, refl, sym, ap₂, subst, ◌∙◌}
 use mathlib.Core.Bool.{true, true≢false}
 use mathlib.Core.List.{List, ◌∷◌}
@@ -10,7 +11,6 @@ use borrow.Author.Tests.{eqb-true, eqb-false}
 use lib.Dec.{eqb}
 use lib.ListN.{length, get_or, set, take, replicate, length-set, get_or-replicate}
 use lib.Seq.{drop-cons, length-take-le, get_or-set_same, get_or-set_other}
-use Rattle.octets.specs.Choice.{if◌then◌else◌}
 use Rattle.octets.specs.Number.{Octets, part}
 use Rattle.octets.specs.Buffer.{all_zero}
 use Rattle.octets.specs.Each.{each}

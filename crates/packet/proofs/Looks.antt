@@ -1,5 +1,6 @@
 -- What a look at some octets tells: that there are too few, that the header is bad, or all that is known of a good one; and that only the
 -- first six octets are looked at. Assumes nothing.
+use Rattle.std.specs.Prelude.{if◌then◌else◌}
 use mathlib.Core.Path.{◌≡◌, refl, subst}
 use mathlib.Core.Bool.{Bool, true, false}
 use mathlib.Core.List.{List, ◌++◌}
@@ -10,7 +11,7 @@ use borrow.Author.Tests.{ltb-true, ltb-false, le-ltb}
 use lib.Dec.{ltb}
 use lib.ListN.{length, take, length-append}
 use lib.Seq.{take-append-le}
-use Rattle.octets.specs.Choice.{if◌then◌else◌, Decides}
+use Rattle.octets.specs.Choice.{Decides}
 use Rattle.octets.proofs.Decide.{told-false, decides-same, decides-leb, decides_ltb, decides_eqb, decides_not, decides_or, ◌and◌}
 use Rattle.packet.specs.declared.Packet.{Packet}
 use Rattle.packet.specs.declared.Look.{Look}

@@ -1,9 +1,9 @@
 -- What a match on a `Kind` or a `Look` leaves is the variant's tag: from it, the variant. Assumes nothing.
+use Rattle.std.specs.Prelude.{if◌then◌else◌}
 use mathlib.Core.Path.{◌≡◌, ap}
 use Prim.Native.Nat.{ℕ}
 use lib.Dec.{eqb}
 use denote.Enum.Declared.{tag_of}
-use Rattle.octets.specs.Choice.{if◌then◌else◌}
 use Rattle.packet.specs.declared.Kind.{Kind}
 use Rattle.packet.specs.declared.Kind.TheVariants.{File, Other, Fill}
 use Rattle.packet.specs.declared.Look.{Look}

@@ -1,6 +1,5 @@
 -- The six octets of a packet header ("Packets", first paragraph). Assumes nothing.
-use Rattle.std.specs.Prelude.{Bool, not, ◌&&◌, ◌||◌, List, ℕ, ◌+◌, ◌<◌, leb, ltb, eqb, length, take}
-use Rattle.octets.specs.Choice.{if◌then◌else◌}
+use Rattle.std.specs.Prelude.{Bool, not, ◌&&◌, ◌||◌, List, ℕ, ◌+◌, ◌<◌, leb, ltb, eqb, length, take, if◌then◌else◌}
 use Rattle.octets.specs.Number.{bits_at}
 use Rattle.packet.specs.declared.Packet.{Packet}
 use Rattle.packet.specs.declared.Look.{Look}

@@ -1,6 +1,5 @@
 -- Application numbers and packet counts. Assumes nothing.
-use Rattle.std.specs.Prelude.{Bool, ℕ, ◌+◌, ◌%◌, leb, ltb, eqb}
-use Rattle.octets.specs.Choice.{if◌then◌else◌}
+use Rattle.std.specs.Prelude.{Bool, ℕ, ◌+◌, ◌%◌, leb, ltb, eqb, if◌then◌else◌}
 use Rattle.packet.specs.declared.Application.{Application}
 use Rattle.packet.specs.declared.CheckedApplication.{CheckedApplication}
 use Rattle.packet.specs.declared.CheckedApplication.TheVariants as application

@@ -1,4 +1,5 @@
 -- The list that the sections stand for, taken from them file by file. Assumes nothing.
+use Rattle.std.specs.Prelude.{if◌then◌else◌}
 use mathlib.Core.Path.{◌≡◌, refl, sym, ap, ap₂, ◌∙◌}
 use mathlib.Core.Bool.{Bool, true, false}
 use mathlib.Core.List.{List, [], ◌∷◌}
@@ -8,7 +9,6 @@ use borrow.Author.Tests.{eq-eqb, ne_eqb}
 use lib.Dec.{eqb}
 use lib.ListN.{length, get_or, drop, drop_of_length-le}
 use lib.Seq.{drop-cons}
-use Rattle.octets.specs.Choice.{if◌then◌else◌}
 use Rattle.octets.proofs.Lists.{if-cases}
 use Rattle.sections.specs.Sections.{Row, values}
 use Rattle.catalogue.specs.declared.Image.{Image}

@@ -1,6 +1,5 @@
 -- The list that the sections stand for, taken from them file by file. Means, all of it. Assumes nothing.
-use Rattle.std.specs.Prelude.{List, [], ◌∷◌, ℕ, eqb, get_or, drop}
-use Rattle.octets.specs.Choice.{if◌then◌else◌}
+use Rattle.std.specs.Prelude.{List, [], ◌∷◌, ℕ, eqb, get_or, drop, if◌then◌else◌}
 use Rattle.sections.specs.Sections.{Row}
 use Rattle.catalogue.specs.declared.Image.{Image}
 use Rattle.catalogue.specs.declared.Image.TheVariants.{Absent, There}

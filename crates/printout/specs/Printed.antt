@@ -1,6 +1,5 @@
 -- What is printed of the octets that were read (docs/CATALOGUE.md, `printout`). Assumes nothing.
-use Rattle.std.specs.Prelude.{List, [], ◌∷◌, ◌++◌, ℕ, suc, length, get_or}
-use Rattle.octets.specs.Choice.{if◌then◌else◌}
+use Rattle.std.specs.Prelude.{List, [], ◌∷◌, ◌++◌, ℕ, suc, length, get_or, if◌then◌else◌}
 use Rattle.text.specs.Pieces.{ascii, spaced}
 use Rattle.text.specs.Lines.{spaced_three, newline}
 use Rattle.facts.specs.declared.Facts.{Facts}

@@ -1,4 +1,5 @@
 -- Where the fields of a type are read: at its one record, or nowhere. Assumes nothing.
+use Rattle.std.specs.Prelude.{if◌then◌else◌}
 use mathlib.Core.Path.{◌≡◌, refl, sym, ap, ◌∙◌}
 use mathlib.Core.Bool.{Bool, true, false}
 use mathlib.Core.Logic.{⊎_elim}
@@ -8,7 +9,6 @@ use Prim.Native.Nat.{ℕ, ◌+◌, ◌≤◌}
 use native.Mathlib.Omega.{arith}
 use borrow.Author.Tests.{eq-eqb, eqb-true}
 use lib.Dec.{eqb}
-use Rattle.octets.specs.Choice.{if◌then◌else◌}
 use Rattle.octets.proofs.Lists.{if-cases}
 use Rattle.records.specs.Records.{place_of}
 use Rattle.records.specs.Together.{how_many}

@@ -1,5 +1,6 @@
 -- Theorems about whole headers: what the records of an accepted one have together, that nothing of the data field enters, which numbers are
 -- given, and that there are headers that are accepted. Assumes nothing.
+use Rattle.std.specs.Prelude.{if◌then◌else◌}
 use mathlib.Core.Path.{◌≡◌, refl, sym, ap, ap₂, subst, ◌∙◌}
 use mathlib.Core.Bool.{Bool, true, false, ◌&&◌, or-true, true≢false, false≢true}
 use mathlib.Core.Logic.{inl, inr, ◌↔◌}
@@ -9,7 +10,6 @@ use native.Mathlib.Omega.{arith}
 use borrow.Author.Tests.{le-leb, lt-leb, eq-eqb, ltb-true, ltb-false, eqb-true}
 use lib.Dec.{leb, ltb, eqb}
 use lib.ListN.{length, take}
-use Rattle.octets.specs.Choice.{if◌then◌else◌}
 use Rattle.octets.specs.Number.{number_at}
 use Rattle.octets.specs.Reasons.{Reason, decided}
 use Rattle.octets.proofs.Lists.{if-cases}

@@ -1,6 +1,5 @@
 -- The records of a header, in order, and what is refused of them ("Header records", refusals 20 to 26). Assumes nothing.
-use Rattle.std.specs.Prelude.{Bool, true, false, not, ◌&&◌, ◌||◌, List, [], ◌∷◌, ◌++◌, ℕ, zero, suc, ◌+◌, ltb, eqb, length, take}
-use Rattle.octets.specs.Choice.{if◌then◌else◌}
+use Rattle.std.specs.Prelude.{Bool, true, false, not, ◌&&◌, ◌||◌, List, [], ◌∷◌, ◌++◌, ℕ, zero, suc, ◌+◌, ltb, eqb, length, take, if◌then◌else◌}
 use Rattle.octets.specs.Number.{number_at, rounded_up}
 use Rattle.octets.specs.Reasons.{Reason}
 use Rattle.octets.specs.Reasons.Reason.{◌when◌}

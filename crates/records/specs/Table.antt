@@ -1,6 +1,5 @@
 -- "Header records": the record types whose length is fixed, and where their fields stand. Assumes nothing.
-use Rattle.std.specs.Prelude.{List, [], ◌∷◌, ℕ, eqb}
-use Rattle.octets.specs.Choice.{if◌then◌else◌}
+use Rattle.std.specs.Prelude.{List, [], ◌∷◌, ℕ, eqb, if◌then◌else◌}
 use Rattle.records.specs.declared.TypeLength.{TypeLength}
 use Rattle.records.specs.declared.TypeLength.TheVariants.{Fixed, Free}
 

@@ -1,6 +1,5 @@
 -- What the records of a header have together, where nothing is refused. Assumes nothing.
-use Rattle.std.specs.Prelude.{◌≡◌, Bool, true, false, ◌&&◌, List, [], ◌∷◌, ◌⊎◌, ℕ, ◌+◌, ◌≤◌, ◌<◌, leb, ltb, eqb, length, take}
-use Rattle.octets.specs.Choice.{if◌then◌else◌}
+use Rattle.std.specs.Prelude.{◌≡◌, Bool, true, false, ◌&&◌, List, [], ◌∷◌, ◌⊎◌, ℕ, ◌+◌, ◌≤◌, ◌<◌, leb, ltb, eqb, length, take, if◌then◌else◌}
 use Rattle.octets.specs.Reasons.{decided}
 use Rattle.records.specs.Table.{Field, FixedType, header_length, data_bits, length_of}
 use Rattle.records.specs.Records.{field_of, header_of, records, octets_for, header_says}

@@ -1,4 +1,5 @@
 -- The searches: which slot is free, which file is of a pair, the sum of the needs, the block at a place; and the loops for them. Assumes nothing.
+use Rattle.std.specs.Prelude.{if◌then◌else◌}
 use mathlib.Core.Path.{◌≡◌, refl, sym, ap, subst, ◌∙◌}
 use mathlib.Core.Bool.{Bool, true, false, not, ◌&&◌, true≢false}
 use mathlib.Core.List.{List, [], ◌∷◌}
@@ -10,7 +11,6 @@ use borrow.Author.Tests.{eqb-true, eq-eqb, not-true, not-false}
 use lib.Dec.{eqb}
 use lib.ListN.{length, get_or, set, take, drop, drop_of_length-le}
 use lib.Seq.{drop-cons}
-use Rattle.octets.specs.Choice.{if◌then◌else◌}
 use Rattle.octets.proofs.Below.{below_none, below-cons}
 use Rattle.octets.proofs.Lists.{if-true, if-false, if-cases}
 use Rattle.octets.proofs.Tests.{and_left, and_right, and_both}

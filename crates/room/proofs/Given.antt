@@ -1,4 +1,5 @@
 -- Blocks that change their owner: what becomes of the table and of each owner's blocks, and the loop that moves them. Assumes nothing.
+use Rattle.std.specs.Prelude.{if◌then◌else◌}
 use mathlib.Core.Path.{◌≡◌, refl, sym, ap, ◌∙◌}
 use mathlib.Core.List.{List, [], ◌∷◌, ◌++◌, cons-ne-nil}
 use Prim.Native.Nat.{ℕ, zero, suc, ◌+◌, ◌-◌, ◌≤◌, ◌<◌}
@@ -26,7 +27,6 @@ use lib.Seq.{
   take-set-lt,
   drop-set-lt,
 }
-use Rattle.octets.specs.Choice.{if◌then◌else◌}
 use Rattle.octets.specs.Number.{part}
 use Rattle.octets.proofs.Below.{Below, below-tail}
 use Rattle.octets.proofs.Lists.{if-cases}

@@ -1,7 +1,6 @@
 -- A script that is read whole and followed command by command (docs/STREAM.md, docs/CATALOGUE.md): what a program owns, how many octets follow a
 -- command of its table, and what a command does are parameters of everything here. Assumes nothing.
-use Rattle.std.specs.Prelude.{List, ℕ, zero, suc, ◌+◌, leb, length, take, drop}
-use Rattle.octets.specs.Choice.{if◌then◌else◌}
+use Rattle.std.specs.Prelude.{List, ℕ, zero, suc, ◌+◌, leb, length, take, drop, if◌then◌else◌}
 use Rattle.octets.specs.Number.{part}
 use Rattle.script.specs.declared.Command.{Command}
 use Rattle.script.specs.declared.Payload.{Payload}

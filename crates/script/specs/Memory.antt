@@ -1,6 +1,5 @@
 -- "Memory", and what M, P and Q do to it. Assumes nothing.
-use Rattle.std.specs.Prelude.{List, ℕ, ◌%◌, min, eqb, length, take, set}
-use Rattle.octets.specs.Choice.{if◌then◌else◌}
+use Rattle.std.specs.Prelude.{List, ℕ, ◌%◌, min, eqb, length, take, set, if◌then◌else◌}
 use Rattle.state.specs.declared.Station.{Station}
 use Rattle.script.specs.declared.Command.{Command}
 use Rattle.script.specs.declared.Run.{Run}

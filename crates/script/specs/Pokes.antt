@@ -1,7 +1,6 @@
 -- Q: "field a, index b" of the state "becomes d, modulo the field's width"; "an index past the array, or a over 12, does nothing": `set` past
 -- the end of an array changes nothing. Assumes nothing.
-use Rattle.std.specs.Prelude.{not, ◌&&◌, ℕ, ◌%◌, ◌^◌, eqb, leb, set}
-use Rattle.octets.specs.Choice.{if◌then◌else◌}
+use Rattle.std.specs.Prelude.{not, ◌&&◌, ℕ, ◌%◌, ◌^◌, eqb, leb, set, if◌then◌else◌}
 use Rattle.state.specs.declared.Slot.{Slot}
 use Rattle.state.specs.declared.Desk.{Desk}
 use Rattle.state.specs.declared.Station.{Station}

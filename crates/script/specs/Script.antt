@@ -1,6 +1,5 @@
 -- A command of the script, and how many octets follow it. Assumes nothing.
-use Rattle.std.specs.Prelude.{Bool, ◌&&◌, ◌||◌, List, ℕ, eqb, leb, get_or}
-use Rattle.octets.specs.Choice.{if◌then◌else◌}
+use Rattle.std.specs.Prelude.{Bool, ◌&&◌, ◌||◌, List, ℕ, eqb, leb, get_or, if◌then◌else◌}
 use Rattle.octets.specs.Number.{number_at}
 use Rattle.script.specs.declared.Command.{Command}
 use Rattle.script.specs.declared.Payload.{Payload}

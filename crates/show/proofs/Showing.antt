@@ -1,4 +1,5 @@
 -- What H writes: the numbers of an owner's blocks one by one, then the lines one by one, and how much room they take. Assumes nothing.
+use Rattle.std.specs.Prelude.{if◌then◌else◌}
 use mathlib.Core.Path.{◌≡◌, refl, sym, ap, ◌∙◌}
 use mathlib.Core.Bool.{true, false}
 use mathlib.Core.List.{List, [], ◌∷◌, ◌++◌}
@@ -10,7 +11,6 @@ use native.Mathlib.Omega.{arith}
 use borrow.Author.Tests.{eq-eqb, ne_eqb}
 use lib.ListN.{length, get_or, take, drop, drop_of_length-le}
 use lib.Seq.{drop-cons, take_all, get_or-take, length-take-le}
-use Rattle.octets.specs.Choice.{if◌then◌else◌}
 use Rattle.text.specs.Pieces.{spaced, Written}
 use Rattle.text.proofs.Following.{Writing, behind, begun, went_on, done}
 use Rattle.frame.specs.declared.Channel.{Channel}

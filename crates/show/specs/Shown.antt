@@ -1,6 +1,5 @@
 -- What H of the trial script prints (docs/TRIAL.md): "shows everything". Assumes nothing.
-use Rattle.std.specs.Prelude.{Bool, ◌&&◌, List, [], ◌∷◌, ◌++◌, ℕ, suc, ◌+◌, eqb, take}
-use Rattle.octets.specs.Choice.{if◌then◌else◌}
+use Rattle.std.specs.Prelude.{Bool, ◌&&◌, List, [], ◌∷◌, ◌++◌, ℕ, suc, ◌+◌, eqb, take, if◌then◌else◌}
 use Rattle.crc.specs.Crc.{crc_of}
 use Rattle.text.specs.Pieces.{spaced}
 use Rattle.text.specs.Lines.{spaced_three, newline}

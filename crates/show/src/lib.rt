@@ -3,8 +3,7 @@
 // Promises: the text that stands in the lent buffer is an equation on the whole buffer, each line in its place (specs/Shown.antt).
 #![tactic(auto)]
 
-ghost use Rattle.std.specs.Prelude.{◌≡◌, ◌+◌, ◌*◌, ◌≤◌, ◌<◌, length, take};
-ghost use Rattle.octets.specs.Choice.{if◌then◌else◌};
+ghost use Rattle.std.specs.Prelude.{◌≡◌, ◌+◌, ◌*◌, ◌≤◌, ◌<◌, length, take, if◌then◌else◌};
 ghost use Rattle.text.specs.Pieces.{Written};
 ghost use Rattle.state.specs.Blocks.{numbers_of};
 ghost use Rattle.show.specs.Shown.{head_line, spaced_all, all_fields_zero, slot_line, slot_lines, channel_line, channel_lines, shown};

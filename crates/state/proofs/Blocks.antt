@@ -1,4 +1,5 @@
 -- The laws of the blocks that a table of owners gives to one owner, and of their number. Assumes nothing.
+use Rattle.std.specs.Prelude.{if◌then◌else◌}
 use mathlib.Core.Path.{◌≡◌, refl, sym, ap, ◌∙◌}
 use mathlib.Core.Logic.{◌⊎◌, inl, inr, ⊎_elim}
 use mathlib.Core.List.{List, [], ◌∷◌, ◌++◌, map, append-nil}
@@ -10,7 +11,6 @@ use borrow.Author.Tests.{eqb-true, eq-eqb, ne_eqb}
 use lib.Dec.{eqb}
 use lib.ListN.{length, get_or, take, drop, set, replicate, length-append, length-map}
 use lib.Seq.{take-suc, drop-cons, split_at, length-take-le, get_or-append_seam}
-use Rattle.octets.specs.Choice.{if◌then◌else◌}
 use Rattle.octets.proofs.Below.{neither, below-cons, below_none}
 use Rattle.octets.proofs.Lists.{if-cases, if-map}
 use Rattle.state.specs.Blocks.{numbers_of}

@@ -1,4 +1,5 @@
 -- The tests of soundness answer true exactly if the state is sound, clause by clause. Assumes nothing.
+use Rattle.std.specs.Prelude.{if◌then◌else◌}
 use mathlib.Core.Path.{◌≡◌, refl, sym, ap, subst, ◌∙◌}
 use mathlib.Core.Bool.{Bool, true, false, ◌&&◌, true≢false}
 use mathlib.Core.List.{List, [], ◌∷◌}
@@ -9,7 +10,7 @@ use borrow.Author.Tests.{eqb-true, eqb-false, not-true, not-false, le-ltb, ltb-f
 use lib.Dec.{ltb, eqb}
 use lib.ListN.{length, get_or, take, drop, length-map}
 use lib.Seq.{length-take-le, get_or-take, get_or-drop}
-use Rattle.octets.specs.Choice.{if◌then◌else◌, Decides}
+use Rattle.octets.specs.Choice.{Decides}
 use Rattle.octets.specs.Choice.Decides.{holds, fails}
 use Rattle.octets.specs.Each.{each}
 use Rattle.octets.proofs.Decide.{decides-same, told-true, tells, decides-by, decides-self, decides-leb, decides_ltb, decides_eqb, decides-then, ◌and◌, decides_not, decides-if, decides-unless, decides_below, decides-some, decides-apart}

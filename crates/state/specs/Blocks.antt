@@ -3,8 +3,7 @@
 -- The station keeps for each block its owner: 0 for a free block, else the number of its slot plus 1. A block's place is its rank among
 -- the blocks of its slot, in rising order: the paper hands out "the N lowest free blocks, in rising order" and takes them back all at
 -- once, so every state that a run can reach is told by the owners alone.
-use Rattle.std.specs.Prelude.{◌≡◌, List, [], ◌∷◌, ℕ, suc, ◌+◌, ◌-◌, ◌<◌, eqb, length, get_or, take}
-use Rattle.octets.specs.Choice.{if◌then◌else◌}
+use Rattle.std.specs.Prelude.{◌≡◌, List, [], ◌∷◌, ℕ, suc, ◌+◌, ◌-◌, ◌<◌, eqb, length, get_or, take, if◌then◌else◌}
 use Rattle.state.specs.declared.Slot.{Slot}
 use Rattle.state.specs.declared.Station.{Station}
 use Rattle.state.specs.Slots.{held, need_of}

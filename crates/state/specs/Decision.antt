@@ -1,6 +1,5 @@
 -- Soundness as a test. That it answers true exactly if the state is sound is proved (proofs/Exactly.antt). Assumes nothing.
-use Rattle.std.specs.Prelude.{Bool, true, false, not, ◌&&◌, ◌||◌, List, [], ◌∷◌, ℕ, zero, suc, leb, ltb, eqb, length, take, drop}
-use Rattle.octets.specs.Choice.{if◌then◌else◌}
+use Rattle.std.specs.Prelude.{Bool, true, false, not, ◌&&◌, ◌||◌, List, [], ◌∷◌, ℕ, zero, suc, leb, ltb, eqb, length, take, drop, if◌then◌else◌}
 use Rattle.octets.specs.Buffer.{all_zero}
 use Rattle.octets.specs.Each.{each}
 use Rattle.packet.specs.declared.Look.{Look}

@@ -1,5 +1,6 @@
 -- What each call gives back, read off the definitions once: the first number of its list that applies, and then nothing changes; or 0, and
 -- then what was to be done is done. Assumes nothing.
+use Rattle.std.specs.Prelude.{if◌then◌else◌}
 use mathlib.Core.Path.{◌≡◌, refl, ◌∙◌}
 use mathlib.Core.Bool.{Bool, true, false, not, ◌&&◌, ◌||◌, and-false}
 use mathlib.Core.Logic.{◌↔◌}
@@ -10,7 +11,6 @@ use native.Mathlib.Omega.{arith}
 use borrow.Author.Tests.{not-false, ltb-true, lt-ltb, le-leb, lt-leb, eqb-true}
 use lib.Dec.{ltb, leb, eqb}
 use lib.ListN.{length, take, replicate, length-replicate}
-use Rattle.octets.specs.Choice.{if◌then◌else◌}
 use Rattle.octets.specs.Number.{part}
 use Rattle.octets.proofs.Lists.{if-map}
 use Rattle.frame.specs.declared.Channel.{Channel}

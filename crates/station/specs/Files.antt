@@ -1,6 +1,5 @@
 -- A file read, told of, and let go. Assumes nothing.
-use Rattle.std.specs.Prelude.{Bool, true, false, not, ◌&&◌, List, [], ◌∷◌, ℕ, ◌-◌, ◌*◌, leb, ltb, eqb, length}
-use Rattle.octets.specs.Choice.{if◌then◌else◌}
+use Rattle.std.specs.Prelude.{Bool, true, false, not, ◌&&◌, List, [], ◌∷◌, ℕ, ◌-◌, ◌*◌, leb, ltb, eqb, length, if◌then◌else◌}
 use Rattle.octets.specs.Number.{part}
 use Rattle.facts.specs.declared.Facts.{Facts}
 use Rattle.transport.specs.Length.{transport_of, octets_of_bits}

@@ -1,6 +1,5 @@
 -- The frame call. Assumes nothing.
-use Rattle.std.specs.Prelude.{Bool, not, ◌&&◌, List, ℕ, leb, length, get_or, take}
-use Rattle.octets.specs.Choice.{if◌then◌else◌}
+use Rattle.std.specs.Prelude.{Bool, not, ◌&&◌, List, ℕ, leb, length, get_or, take, if◌then◌else◌}
 use Rattle.octets.specs.Buffer.{put}
 use Rattle.frame.specs.declared.Channel.{Channel}
 use Rattle.frame.specs.declared.Examined.{Examined}

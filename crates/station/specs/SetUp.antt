@@ -1,6 +1,5 @@
 -- Set-up. Assumes nothing.
-use Rattle.std.specs.Prelude.{Bool, not, ◌&&◌, List, ◌++◌, map, ℕ, ◌-◌, ◌*◌, ◌/◌, ◌%◌, leb, eqb, length, replicate}
-use Rattle.octets.specs.Choice.{if◌then◌else◌}
+use Rattle.std.specs.Prelude.{Bool, not, ◌&&◌, List, ◌++◌, map, ℕ, ◌-◌, ◌*◌, ◌/◌, ◌%◌, leb, eqb, length, replicate, if◌then◌else◌}
 use Rattle.frame.specs.declared.Channel.{Channel}
 use Rattle.state.specs.declared.Station.{Station}
 use Rattle.state.specs.Slots.{no_file, empty_desk, all_zero_state}

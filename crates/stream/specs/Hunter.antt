@@ -1,6 +1,5 @@
 -- The hunter, and what its two calls give. Assumes nothing.
-use Rattle.std.specs.Prelude.{◌≡◌, Bool, true, false, not, ◌&&◌, ◌||◌, List, [], ◌∷◌, ◌++◌, ℕ, suc, ◌+◌, ◌-◌, ◌≤◌, ltb, leb, eqb, length, take, drop, replicate}
-use Rattle.octets.specs.Choice.{if◌then◌else◌}
+use Rattle.std.specs.Prelude.{◌≡◌, Bool, true, false, not, ◌&&◌, ◌||◌, List, [], ◌∷◌, ◌++◌, ℕ, suc, ◌+◌, ◌-◌, ◌≤◌, ltb, leb, eqb, length, take, drop, replicate, if◌then◌else◌}
 use Rattle.octets.specs.Buffer.{all_zero}
 use Rattle.stream.specs.declared.Hunter.{Hunter}
 use Rattle.stream.specs.declared.Begun.{Begun}

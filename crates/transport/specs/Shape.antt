@@ -1,6 +1,5 @@
 -- The shapes of a file's packets, by their sequence flags ("Packets", the two rules for a file). Assumes nothing.
-use Rattle.std.specs.Prelude.{Bool, false, not, ◌&&◌, List, ℕ, ◌+◌, leb, ltb, eqb, length}
-use Rattle.octets.specs.Choice.{if◌then◌else◌}
+use Rattle.std.specs.Prelude.{Bool, false, not, ◌&&◌, List, ℕ, ◌+◌, leb, ltb, eqb, length, if◌then◌else◌}
 use Rattle.packet.specs.declared.Count.{Count}
 use Rattle.packet.specs.Kinds.{count_follows}
 use Rattle.transport.specs.declared.Begun.{Begun}

@@ -1,4 +1,5 @@
 -- Numbers of a question made counts and counters, by the constructors that check their range; a test's answer as a number. Assumes nothing.
+use Rattle.std.specs.Prelude.{if◌then◌else◌}
 use mathlib.Core.Path.{◌≡◌, refl, sym}
 use mathlib.Core.Bool.{Bool, true, false}
 use mathlib.Core.List.{List}
@@ -9,7 +10,6 @@ use borrow.Author.Tests.{lt-ltb, le-ltb, le-leb, lt-leb}
 use lib.Dec.{ltb, leb}
 use lib.ListN.{length, get_or}
 use mir.Val.{bool_byte}
-use Rattle.octets.specs.Choice.{if◌then◌else◌}
 use Rattle.octets.specs.Number.{number_at}
 use Rattle.octets.proofs.Numbers.{number_at-one}
 use Rattle.frame.specs.declared.Counter.{Counter}

@@ -1,4 +1,5 @@
 -- What is kept of a line stands for the line itself, so a script of any length prints what each of its lines is answered. Assumes nothing.
+use Rattle.std.specs.Prelude.{if◌then◌else◌}
 use mathlib.Core.Path.{◌≡◌, refl, sym, ap, subst, ◌∙◌}
 use mathlib.Core.List.{List, [], ◌∷◌, ◌++◌, append_assoc}
 use Prim.Native.Nat.{ℕ, ◌+◌, ◌≤◌, ◌<◌}
@@ -9,7 +10,6 @@ use borrow.Author.Tests.{lt-ltb, le-ltb, eq-eqb, ne_eqb}
 use lib.Dec.{eqb}
 use lib.ListN.{length, get_or, set, take, length-append, length-set, get_or-append}
 use lib.Seq.{take-suc-set, set_out, get_or-take}
-use Rattle.octets.specs.Choice.{if◌then◌else◌}
 use Rattle.vectors.specs.Answers.{line_answer, answer_of}
 use Rattle.vectors.specs.Kept.{Kept, one_more, printed, line_printed, came, all_came, printed_by, script_printed}
 

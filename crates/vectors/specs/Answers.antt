@@ -1,9 +1,8 @@
 -- docs/VECTORS.md, "The questions": the text of the answer, from the question's octets q. Assumes nothing.
-use Rattle.std.specs.Prelude.{Bool, ◌||◌, List, [], ◌∷◌, ◌++◌, ℕ, zero, suc, leb, ltb, eqb, length, get_or, take, drop}
+use Rattle.std.specs.Prelude.{Bool, ◌||◌, List, [], ◌∷◌, ◌++◌, ℕ, zero, suc, leb, ltb, eqb, length, get_or, take, drop, if◌then◌else◌}
 use Rattle.std.proofs.Math.Option.{Option, none, some}
 use Prim.Native.Char.{code}
 use Rattle.io.specs.Digits.{last_digits}
-use Rattle.octets.specs.Choice.{if◌then◌else◌}
 use Rattle.octets.specs.Number.{number_at}
 use Rattle.text.specs.Pieces.{ascii, spaced, in_hex}
 use Rattle.noise.specs.Noise.{noise_at}

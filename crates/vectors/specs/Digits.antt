@@ -1,7 +1,6 @@
 -- Hexadecimal digits, and the octets that they stand for, "two digits each". Assumes nothing.
-use Rattle.std.specs.Prelude.{Bool, ◌&&◌, List, [], ◌∷◌, ◌++◌, ℕ, ◌+◌, ◌-◌, ◌*◌, leb, ltb}
+use Rattle.std.specs.Prelude.{Bool, ◌&&◌, List, [], ◌∷◌, ◌++◌, ℕ, ◌+◌, ◌-◌, ◌*◌, leb, ltb, if◌then◌else◌}
 use Rattle.std.proofs.Math.Option.{Option, none, some}
-use Rattle.octets.specs.Choice.{if◌then◌else◌}
 
 -- "hexadecimal digits (either case)": the value of a digit, and 16 for an octet that is none
 unfoldable pub value_of : ℕ → ℕ

@@ -1,7 +1,6 @@
 -- docs/VECTORS.md, "The script": how a line is kept while its octets come, and what is printed at its end. Assumes nothing.
-use Rattle.std.specs.Prelude.{◌||◌, List, [], ◌∷◌, ◌++◌, ℕ, ◌+◌, eqb, ltb, length, get_or, set}
+use Rattle.std.specs.Prelude.{◌||◌, List, [], ◌∷◌, ◌++◌, ℕ, ◌+◌, eqb, ltb, length, get_or, set, if◌then◌else◌}
 use Prim.Native.Char.{code}
-use Rattle.octets.specs.Choice.{if◌then◌else◌}
 use Rattle.octets.specs.Buffer.{put}
 use Rattle.text.specs.Lines.{newline}
 use Rattle.vectors.specs.Answers.{line_answer, answer_of}

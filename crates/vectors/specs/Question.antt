@@ -1,7 +1,6 @@
 -- The form of a question. Assumes nothing.
-use Rattle.std.specs.Prelude.{List, [], ◌∷◌, ℕ, eqb, take}
+use Rattle.std.specs.Prelude.{List, [], ◌∷◌, ℕ, eqb, take, if◌then◌else◌}
 use Rattle.std.proofs.Math.Option.{Option, none, some}
-use Rattle.octets.specs.Choice.{if◌then◌else◌}
 use Rattle.vectors.specs.Digits.{octets_of}
 use Rattle.vectors.specs.declared.digits.Decoded.{Decoded}
 use Rattle.vectors.specs.declared.digits.Decoded.TheVariants.{Octets, Nothing}

@@ -1,6 +1,5 @@
 -- What the function that puts a desk in order asks and promises. Assumes nothing.
-use Rattle.std.specs.Prelude.{◌≡◌, Bool, List, [], ℕ, ◌+◌, ◌*◌, ◌≤◌, ◌<◌, length, drop}
-use Rattle.octets.specs.Choice.{if◌then◌else◌}
+use Rattle.std.specs.Prelude.{◌≡◌, Bool, List, [], ℕ, ◌+◌, ◌*◌, ◌≤◌, ◌<◌, length, drop, if◌then◌else◌}
 use Rattle.octets.specs.Buffer.{put}
 use Rattle.events.specs.Event.{flat}
 use Rattle.zone.specs.Walk.{with_held, bad_events}

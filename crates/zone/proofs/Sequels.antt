@@ -1,8 +1,8 @@
 -- The sequel of a held packet, case by case, so that no proof has to open the definition. Assumes nothing.
+use Rattle.std.specs.Prelude.{if◌then◌else◌}
 use mathlib.Core.Path.{◌≡◌, refl, sym, ap}
 use mathlib.Core.Bool.{Bool, true, false}
 use Prim.Native.Nat.{ℕ, ◌-◌}
-use Rattle.octets.specs.Choice.{if◌then◌else◌}
 use Rattle.frame.specs.declared.Pointer.{Pointer}
 use Rattle.packet.specs.declared.Packet.{Packet}
 use Rattle.packet.specs.declared.Look.{Look}

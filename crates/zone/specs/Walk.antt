@@ -1,6 +1,5 @@
 -- What a frame that is not refused does ("Frames", 4 to 6). Assumes nothing.
-use Rattle.std.specs.Prelude.{Bool, true, not, ◌&&◌, List, [], ◌∷◌, ◌++◌, ℕ, ◌-◌, ◌*◌, length, replicate}
-use Rattle.octets.specs.Choice.{if◌then◌else◌}
+use Rattle.std.specs.Prelude.{Bool, true, not, ◌&&◌, List, [], ◌∷◌, ◌++◌, ℕ, ◌-◌, ◌*◌, length, replicate, if◌then◌else◌}
 use Rattle.octets.specs.Number.{part}
 use Rattle.octets.specs.Buffer.{put}
 use Rattle.frame.specs.declared.Accepted.{Accepted}

@@ -1,11 +1,11 @@
 -- `lines::report` meets its contract. Assumes nothing.
+use Rattle.std.specs.Prelude.{if◌then◌else◌}
 use mathlib.Core.Path.{◌≡◌}
 use mathlib.Core.Bool.{Bool}
 use mathlib.Core.List.{List, [], ◌∷◌}
 use Prim.Native.Nat.{ℕ, ◌+◌, ◌≤◌}
 use native.Mathlib.Omega.{arith}
 use borrow.Author.Tests.{eq-eqb, ne_eqb}
-use Rattle.octets.specs.Choice.{if◌then◌else◌}
 use Rattle.text.specs.Pieces.{Written}
 use Rattle.text.proofs.Following.{nothing}
 use Rattle.lines.specs.Lines as lines
