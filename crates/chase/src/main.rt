@@ -43,7 +43,7 @@ fn fetch(script: &[u8], at: usize) -> Next
 
 // One command carried out, and its text printed.
 fn obey(
-    output: Stdout,
+    mut output: Stdout,
     h: Hunter,
     x: Command,
     portion: &[u8],
@@ -55,7 +55,7 @@ fn obey(
 {
     let a = calls::carry_out(h, x, portion, buffer, out);
     let last = a.end;
-    pipes::write_all(output, &out[0..last]);
+    pipes::write_all(&mut output, &out[0..last]);
     let after = a.hunter;
     after
 }
@@ -119,11 +119,11 @@ fn run(output: Stdout, script: &[u8], out: &mut [u8]) -> usize
 }
 
 // The script, read first, and followed.
-fn read(input: Stdin, output: Stdout, script: &mut [u8]) {
+fn read(input: Stdin, mut output: Stdout, script: &mut [u8]) {
     let mut out = [0u8; TEXT];
     let n = pipes::read_full(input, script);
     let last = run(output, &script[0..n], &mut out);
-    pipes::write_all(output, &out[0..last]);
+    pipes::write_all(&mut output, &out[0..last]);
 }
 
 // Room for a script. It is known by its length alone: what is computed octet by octet is too long for a proof.

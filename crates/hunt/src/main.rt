@@ -71,7 +71,7 @@ pub struct Given {
 }
 
 // One portion, again with its rest until no frame is found in it. Each frame is written as it is found.
-fn feed(output: Stdout, h: Hunter, portion: &[u8], unit: &mut [u8]) -> Given
+fn feed(mut output: Stdout, h: Hunter, portion: &[u8], unit: &mut [u8]) -> Given
     ensures hunter_value { result.hunter ≡ (fed_by h portion.now unit.old).hunter }
     ensures frames_value { result.frames ≡ length (fed_by h portion.now unit.old).frames }
     ensures unit_after { unit.new ≡ (fed_by h portion.now unit.old).buffer }
@@ -88,7 +88,7 @@ fn feed(output: Stdout, h: Hunter, portion: &[u8], unit: &mut [u8]) -> Given
                 hunter: next,
             };
         }
-        pipes::write_all(output, unit);
+        pipes::write_all(&mut output, unit);
         t = next;
         at += r.taken;
         frames += 1;
@@ -138,23 +138,23 @@ fn passed_over(t: Tally) -> u64
 }
 
 // The last line of a run.
-fn end(errors: Stderr, frames: u64, passed: u64, waiting: u64, out: &mut [u8])
+fn end(mut errors: Stderr, frames: u64, passed: u64, waiting: u64, out: &mut [u8])
     requires { length out.old ≡ 67 }
     ensures { out.new ≡ put out.old 0 (end_line frames passed waiting) }
 {
     let third = text::with_three(b"END", frames, passed, waiting, out, 0);
     let last = text::line_end(out, third);
-    pipes::write_errors(errors, &out[0..last]);
+    pipes::write_all(&mut errors, &out[0..last]);
 }
 
 // The line of a refusal.
-fn refusal(errors: Stderr, answer: u8, out: &mut [u8])
+fn refusal(mut errors: Stderr, answer: u8, out: &mut [u8])
     requires { length out.old ≡ 67 }
     ensures { out.new ≡ put out.old 0 (refusal_line answer) }
 {
     let first = text::with_number(b"hunt:", answer as u64, out, 0);
     let last = text::word(b", k is 0 to 3\n", out, first);
-    pipes::write_errors(errors, &out[0..last]);
+    pipes::write_all(&mut errors, &out[0..last]);
 }
 
 // A run, from the command's words on: the input hunted through, and its line; or the line of the refusal.

@@ -1,12 +1,13 @@
 // Octets in from standard input, and out to standard output and standard error.
 //
-// Promises: every call ends, and what was read is within the buffer. No contract can say what a stream gives or takes. A read that fails counts
-// as the end of the input, and a write that fails is let go: nobody is there to be told.
+// Promises: every call ends; what was read is within the buffer; of a writer that tells what it holds, octets that are said to be written stand
+// behind what it held. Of the system's streams no contract can say what they give or take. A read that fails counts as the end of the input.
 #![tactic(auto)]
 
-ghost use Rattle.std.specs.Prelude.{◌≤◌, length};
+ghost use Rattle.std.specs.Prelude.{◌≡◌, ◌≤◌, true, length};
+ghost use Rattle.std.specs.Io.KnownBytes.{Appends};
 
-use std::io::{Read, Stderr, Stdin, Stdout, Write};
+use std::io::{Read, Stdin, Write};
 
 // One read: how many octets came, at the start of the buffer; 0 at the end of the input.
 pub fn read_some(input: Stdin, buf: &mut [u8]) -> usize
@@ -34,12 +35,12 @@ pub fn read_full(input: Stdin, buf: &mut [u8]) -> usize
     done
 }
 
-pub fn write_all(output: Stdout, octets: &[u8]) {
-    let mut to = output;
-    let _ = to.write_all(octets);
-}
-
-pub fn write_errors(errors: Stderr, octets: &[u8]) {
-    let mut to = errors;
-    let _ = to.write_all(octets);
+// Writes all the octets: whether they were written.
+pub fn write_all<W: Write>(output: &mut W, octets: &[u8]) -> bool
+    ensures { result ≡ true → Appends (W.contents output.old) (W.contents output.new) octets.now }
+{
+    match output.write_all(octets) {
+        Ok(_) => true,
+        Err(_) => false,
+    }
 }

@@ -212,12 +212,12 @@ fn print(s: &[u8], out: &mut [u8]) -> usize
 }
 
 // Both lengths are asked for: a shorter buffer could cut a catalogue, or its text.
-fn read(input: Stdin, output: Stdout, s: &mut [u8], out: &mut [u8])
+fn read(input: Stdin, mut output: Stdout, s: &mut [u8], out: &mut [u8])
     requires { (length s.old ≡ 32768) × (length out.old ≡ 283147) }
 {
     let n = pipes::read_full(input, s);
     let end = print(&s[0..n], out);
-    pipes::write_all(output, &out[0..end]);
+    pipes::write_all(&mut output, &out[0..end]);
 }
 
 fn main(rt: HostRuntime) {

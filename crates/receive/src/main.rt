@@ -31,7 +31,7 @@ const LIST: usize = 900;
 const LINES: usize = 19565;
 
 // What happened with a frame: its line, and a line for each event.
-fn tell(output: Stdout, index: u64, answer: u8, events: usize, list: &[u16], out: &mut [u8])
+fn tell(mut output: Stdout, index: u64, answer: u8, events: usize, list: &[u16], out: &mut [u8])
     requires { (events ≤ 300) × (length list.now ≡ 900) × (length out.old ≡ 19565) }
     ensures { out.new ≡ put out.old 0 (frame_text index answer events list.now) }
 {
@@ -39,7 +39,7 @@ fn tell(output: Stdout, index: u64, answer: u8, events: usize, list: &[u16], out
     let last = text::numbers(index, answer as u64, events as u64, out, letter);
     let head = text::line_end(out, last);
     let end = lines::events(list, events, out, head);
-    pipes::write_all(output, &out[0..end]);
+    pipes::write_all(&mut output, &out[0..end]);
 }
 
 // One frame, taken by the station and told. Answers the state after it.
@@ -64,12 +64,12 @@ fn receive(
 }
 
 // The end of the input: how many frames there were, and how many octets were left over.
-fn end(output: Stdout, frames: u64, left: u64, out: &mut [u8])
+fn end(mut output: Stdout, frames: u64, left: u64, out: &mut [u8])
     requires { length out.old ≡ 19565 }
     ensures { out.new ≡ put out.old 0 (end_line frames left) }
 {
     let last = lines::end_line(frames, left, out, 0);
-    pipes::write_all(output, &out[0..last]);
+    pipes::write_all(&mut output, &out[0..last]);
 }
 
 // Nothing says that an input ends, and a proved loop has to: it stops at a number of frames that no run comes to.

@@ -84,7 +84,7 @@ fn fetch(input: Stdin, payload: &mut [u8]) -> Fetched
 
 // One command carried out, whose payload is the first k octets of a buffer, and its text printed.
 fn obey(
-    output: Stdout,
+    mut output: Stdout,
     w: Run,
     x: Command,
     payload: &[u8],
@@ -100,17 +100,17 @@ fn obey(
 {
     let r = drive::carry_out(w, x, &payload[0..k], desks, store, out);
     let last = r.end;
-    pipes::write_all(output, &out[0..last]);
+    pipes::write_all(&mut output, &out[0..last]);
     r
 }
 
 // The last line: how many commands were carried out, and how many octets of the script were not used.
-fn end(output: Stdout, n: u64, unused: u64, out: &mut [u8])
+fn end(mut output: Stdout, n: u64, unused: u64, out: &mut [u8])
     requires { length out.old ≡ 90844 }
     ensures { out.new ≡ put out.old 0 (end_line n unused) }
 {
     let last = lines::end_line(n, unused, out, 0);
-    pipes::write_all(output, &out[0..last]);
+    pipes::write_all(&mut output, &out[0..last]);
 }
 
 // The script, command by command. Nothing says that an input ends, and a proved loop has to: it stops at a number of commands that no run

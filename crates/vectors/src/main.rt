@@ -38,7 +38,7 @@ fn gather(line: &mut [u8], held: usize, x: u8) -> usize
 }
 
 // A line's end. An empty line, and a comment of any length, is passed over.
-fn end_line(output: Stdout, line: &[u8], held: usize, out: &mut [u8])
+fn end_line(mut output: Stdout, line: &[u8], held: usize, out: &mut [u8])
     requires { (length line.now ≡ 2050) × (length out.old ≡ 2051) }
     ensures { out.new ≡ put out.old 0 (printed line.now held) }
 {
@@ -50,7 +50,7 @@ fn end_line(output: Stdout, line: &[u8], held: usize, out: &mut [u8])
     }
     let last = answers::answer(line, held, out);
     let end = text::line_end(out, last);
-    pipes::write_all(output, &out[0..end]);
+    pipes::write_all(&mut output, &out[0..end]);
 }
 
 // One octet of the script. Answers how many octets the line has that is begun then.
