@@ -1,4 +1,5 @@
 -- What the functions learn from what was decided: a place that was found, a file that was found. Assumes nothing.
+use Rattle.std.specs.Prelude.{Some}
 use mathlib.Core.Path.{◌≡◌}
 use mathlib.Core.Bool.{false}
 use mathlib.Core.List.{List}
@@ -14,7 +15,6 @@ use Rattle.state.specs.declared.Station.{Station}
 use Rattle.state.specs.Slots.{no_file, slot_at, held}
 use Rattle.state.specs.Blocks.{room}
 use Rattle.state.specs.Sound.{Sized, Sound}
-use Rattle.room.specs.declared.Found.TheVariants.{At}
 use Rattle.room.specs.Find.{free_from, free_slot, file_from, file_of}
 use Rattle.room.specs.Move.{let_go}
 use Rattle.room.proofs.Find.{free-at}
@@ -32,7 +32,7 @@ pub record Fresh (s : Station) (k : ℕ) (t : Transport) : Type 0 where
   pub some : 1 ≤ need t.bits
   pub fits : need t.bits ≤ room s
 
-free-found : (s : Station) {k : ℕ} → free_from 0 s.slots ≡ At k → free_slot s ≡ At k
+free-found : (s : Station) {k : ℕ} → free_from 0 s.slots ≡ Some k → free_slot s ≡ Some k
 unfolding free_slot
 free-found s e = e
 
@@ -43,11 +43,11 @@ placed-fresh s z flags d {k} p =
     record { low = omega (arith, slot.low, z.slots); free = slot.free; some = (begun-right flags d p.right).some; fits = p.fits }
 
 -- the incomplete file of a pair
-file-found : (s : Station) (c : Channel) (a : Application) {k : ℕ} → file_from 0 c a s.slots ≡ At k → file_of s c a ≡ At k
+file-found : (s : Station) (c : Channel) (a : Application) {k : ℕ} → file_from 0 c a s.slots ≡ Some k → file_of s c a ≡ Some k
 unfolding file_of
 file-found s c a e = e
 
-pub found-going : (s : Station) → Sized s → Sound s → (c : Channel) (a : Application) {k : ℕ} → file_from 0 c a s.slots ≡ At k → Going s c a k
+pub found-going : (s : Station) → Sized s → Sound s → (c : Channel) (a : Application) {k : ℕ} → file_from 0 c a s.slots ≡ Some k → Going s c a k
 found-going s z S c a e = file-going z S c a (file-found s c a e)
 
 -- a file that was placed as if the one of slot k were gone, once it is

@@ -38,8 +38,7 @@ fn write(owner: &[u8], blocks: u16, k: usize, place: usize, data: &[u8], store: 
 {
     let n = blocks as usize;
     let b = blocks::block_at(owner, n, k as u8 + 1, place);
-    let at = Transport::BLOCK * b;
-    octets::copy(data, store, at);
+    octets::copy(data, store, Transport::BLOCK * b);
 }
 
 // The events of a file opened in slot k: 10, and for a whole file 12.
@@ -50,9 +49,10 @@ fn open_events(list: &mut [u16], n: usize, flags: u8, application: u16, k: usize
 {
     let m = events::emit(list, n, 10, application, k as u16);
     if flags == Packet::WHOLE {
-        return events::emit(list, m, 12, application, k as u16);
+        events::emit(list, m, 12, application, k as u16)
+    } else {
+        m
     }
-    m
 }
 
 // A file opened in slot k.
@@ -73,21 +73,19 @@ fn open_at(
     requires fresh { (k < 32) × (held (get_or slots k no_file) ≡ false) × (1 ≤ need t.bits) × (need t.bits ≤ room_of (station_of head owner.old slots)) × (length «data».now ≤ 8190) }
     ensures { Tells (opens channel (station_of head owner.old slots) store.old h «data».now k t) n list.old (station_of head owner.new result.slots) result.events store.new list.new }
 {
-    let application = h.application;
-    let count = h.count;
     let x = Slot {
-        channel: channel,
-        application: application,
+        channel,
+        application: h.application,
         bits: t.bits,
-        count: count,
+        count: h.count,
         accepted: 1,
     };
     let after = blocks::open_file(head, owner, slots, k, x);
     write(owner, head.blocks, k, 0, data, store);
-    let m = open_events(list, n, h.flags, application.0, k);
+    let events = open_events(list, n, h.flags, h.application.0, k);
     Told {
         slots: after,
-        events: m,
+        events,
     }
 }
 
@@ -106,11 +104,10 @@ fn end_file(
     ensures events_value { (result.events ≡ n + 1) × (list.new ≡ put list.old (3 * n) (6 ∷ h.application.0 ∷ k ∷ [])) }
 {
     let after = blocks::let_go(head, owner, slots, k);
-    let application = h.application;
-    let m = events::emit(list, n, 6, application.0, k as u16);
+    let events = events::emit(list, n, 6, h.application.0, k as u16);
     Told {
         slots: after,
-        events: m,
+        events,
     }
 }
 
@@ -134,19 +131,24 @@ fn begin_over(
 {
     let ended = end_file(head, owner, slots, h, k, list, n);
     let left = ended.slots;
-    let m = ended.events;
     match place {
-        Place::Denied(kind) => {
-            let application = h.application;
-            let last = events::emit(list, m, kind, application.0, 0);
-            return Told {
-                slots: left,
-                events: last,
-            };
-        }
-        Place::Granted(j, t) => {
-            return open_at(channel, head, owner, left, h, data, j, t, store, list, m);
-        }
+        Place::Denied(kind) => Told {
+            slots: left,
+            events: events::emit(list, ended.events, kind, h.application.0, 0),
+        },
+        Place::Granted(j, t) => open_at(
+            channel,
+            head,
+            owner,
+            left,
+            h,
+            data,
+            j,
+            t,
+            store,
+            list,
+            ended.events,
+        ),
     }
 }
 
@@ -179,15 +181,13 @@ fn go_on(
     let mut x = after[k];
     let place = x.accepted as usize;
     write(owner, blocks, k, place, data, store);
-    let count = h.count;
-    x.count = count;
-    x.accepted = x.accepted + 1;
+    x.count = h.count;
+    x.accepted += 1;
     after[k] = x;
-    let application = h.application;
-    let m = events::emit(list, n, next_event(h.flags), application.0, k as u16);
+    let events = events::emit(list, n, next_event(h.flags), h.application.0, k as u16);
     Told {
         slots: after,
-        events: m,
+        events,
     }
 }
 
@@ -211,17 +211,11 @@ pub fn carry_out(
     let end = packet.len() - Packet::CHECK;
     let data = &packet[Packet::HEADER..end];
     match act {
-        Act::Opens(k, t) => {
-            return open_at(channel, head, owner, slots, h, data, k, t, store, list, n);
-        }
+        Act::Opens(k, t) => open_at(channel, head, owner, slots, h, data, k, t, store, list, n),
         Act::Over(k, p) => {
-            return begin_over(k, p, channel, head, owner, slots, h, data, store, list, n);
+            begin_over(k, p, channel, head, owner, slots, h, data, store, list, n)
         }
-        Act::GoesOn(k) => {
-            return go_on(head.blocks, owner, slots, h, data, k, store, list, n);
-        }
-        Act::Ends(k) => {
-            return end_file(head, owner, slots, h, k, list, n);
-        }
+        Act::GoesOn(k) => go_on(head.blocks, owner, slots, h, data, k, store, list, n),
+        Act::Ends(k) => end_file(head, owner, slots, h, k, list, n),
     }
 }

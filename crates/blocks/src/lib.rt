@@ -23,18 +23,13 @@ fn move_blocks(
     ensures { owner.new ≡ given to (take count (numbers_of from 0 (take n owner.old))) owner.old }
 {
     let mut left = count;
-    let mut b: usize = 0;
-    while b < n {
+    for b in 0..n {
         if left == 0 {
             return;
         }
-        let o = owner[b];
-        if o == from {
+        if owner[b] == from {
             owner[b] = to;
             left -= 1;
-            b += 1;
-        } else {
-            b += 1;
         }
     }
 }
@@ -51,10 +46,8 @@ fn free_blocks(owner: &mut [u8; Station::MOST_BLOCKS as usize], n: usize, from: 
     requires { (n ≤ 4096) × (length owner.old ≡ 4096) }
     ensures { owner.new ≡ given 0 (numbers_of from 0 (take n owner.old)) owner.old }
 {
-    let mut b: usize = 0;
-    while b < n {
+    for b in 0..n {
         owner[b] = kept(owner[b], from);
-        b += 1;
     }
 }
 
@@ -89,8 +82,7 @@ pub fn let_go(
     let n = head.blocks as usize;
     free_blocks(owner, n, k as u8 + 1);
     let mut after = slots;
-    let empty = Slot::none();
-    after[k] = empty;
+    after[k] = Slot::none();
     after
 }
 
@@ -100,17 +92,12 @@ pub fn block_at(owner: &[u8], n: usize, o: u8, place: usize) -> usize
     ensures { result ≡ get_or (numbers_of o 0 (take n owner.now)) place 0 }
 {
     let mut still = place;
-    let mut b: usize = 0;
-    while b < n {
-        let x = owner[b];
-        if x == o {
+    for b in 0..n {
+        if owner[b] == o {
             if still == 0 {
                 return b;
             }
             still -= 1;
-            b += 1;
-        } else {
-            b += 1;
         }
     }
     0

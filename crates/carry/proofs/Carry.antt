@@ -32,7 +32,7 @@ use Rattle.zone.specs.Zone.{Split, split, Reading, agrees, reading}
 use Rattle.zone.specs.Walk.{judged_all, gap, held_at, with_held, with_desk, desk_after, Walked, walked_from, walked}
 use Rattle.zone.specs.Contract.{Lent, Going, Carrying, start_at, sequel_of, TellsWalked, Stops, walked_on}
 use Rattle.zone.specs.Contract.Room.{by-packet}
-use Rattle.carry.specs.Contract.{more_of, joined_on, desk_to, sequel_on, Joining, Beginning, Afresh, Onwards}
+use Rattle.carry.specs.Contract.{more_of, joined_on, desk_to, Beginning, Afresh, Onwards}
 use Rattle.carry.specs.Contract.Afresh.{by-gap, by-none, by-drop}
 use Rattle.zone.proofs.Split.{split-left, split_one, unfinished-few, look-carried, carried-lacks, carried-packet}
 use Rattle.zone.proofs.Readings.{from_start, at_pointer, onward, reading-none, reading-bad, reading-on, reading-dropped, reading-gap, reading-seamless}
@@ -132,24 +132,9 @@ module _ (xs zone : List ℕ) (p : Pointer) (some : 0 < length xs) (long : 6 ≤
           absurd (omega arith)
       by (Good h) e = good h e (agrees (size_of h - length xs) p) refl
 
--- the same station, with as many octets on its desks and numbers in its list
+-- what is lent serves after a packet was judged, too
 module _ {c : Channel} {s : Station} {a : Accepted} {zone desks store list : List ℕ} (L : Lent c s a zone desks store list) {desked listed : List ℕ}
     (d : length desked ≡ length desks) where
-  pub lent-told : (n : ℕ) (es : List ℕ) → listed ≡ put list n es → Lent c s a zone desked store listed
-  lent-told n es l =
-      record {
-        sound = L.sound;
-        owners = L.owners;
-        watched = L.watched;
-        desk = L.desk;
-        frame = L.frame;
-        start = L.start;
-        desked = d ∙ L.desked;
-        stored = L.stored;
-        listed = omega (arith, L.listed, ap length l, length-put list n es);
-      }
-
-  -- and after a packet was judged
   pub lent-judged : Sized s → (p : List ℕ) {t : Station} {m : ℕ} {stored : List ℕ} {n : ℕ} → TellsJudged (judged c s store p) n list t m stored listed
       → Lent c t a zone desked stored listed
   lent-judged z p {n} u =
@@ -369,30 +354,6 @@ module _ (c : Channel) (s : Station) (desks store zone : List ℕ) (a : Accepted
         (ap (λ (v : Reading). walked_from c s desks store a v.events v.octets) reads ∙ ap (walked_from c s desks store a []) start)
         t)
 
--- the octets that are put behind the held ones
-module _ {a : Accepted} {held : ℕ} {zone desks : List ℕ} (P : Joining a held zone desks) {more : ℕ} (m : more ≡ more_of held) where
-  pub join-taken : length (take more zone) ≡ more
-  join-taken = length-take-le more zone (omega (arith, P.frame))
-
-  pub join-fits : 8198 * a.desk + held + more ≤ length desks
-  join-fits = omega (arith, P.few, P.desked)
-
-  module _ {desked : List ℕ} (w : desked ≡ put desks (8198 * a.desk + held) (take more zone)) where
-    pub join-wrote : desked ≡ joined_on a held zone desks
-    join-wrote = w ∙ ap (λ (k : ℕ). put desks (8198 * a.desk + held) (take k zone)) m
-
-    look-joined : look_of (desk_to a (8198 * a.desk + held + more) desked) ≡ look_of (desk_to a (8198 * a.desk + held + more_of held) desked)
-    look-joined = ap (λ (k : ℕ). look_of (desk_to a (8198 * a.desk + held + k) desked)) m
-
-    pub join-lacks : (h : Packet) → look_of (desk_to a (8198 * a.desk + held + more) desked) ≡ Good h → held ≤ size_of h
-    join-lacks h e =
-        P.lacks h
-        (ap (λ (xs : List ℕ). look_of (desk_to a (8198 * a.desk + held + more_of held) xs)) (sym join-wrote) ∙ sym look-joined ∙ e)
-
-    pub join-sequel : {f : Sequel} → f ≡ sequel_of (look_of (desk_to a (8198 * a.desk + held + more) desked)) held a.pointer
-        → f ≡ sequel_on a held desked
-    join-sequel e = e ∙ ap (λ (l : Look). sequel_of l held a.pointer) look-joined
-
 -- how a frame begins, and what comes of it
 module _ {c : Channel} {s : Station} {a : Accepted} {zone desks store list : List ℕ} (L : Lent c s a zone desks store list) (D : DesksSound s desks) where
   abbrev joined : {desked : List ℕ} → 0 < (desk_at s a.desk).held → desked ≡ joined_on a (desk_at s a.desk).held zone desks
@@ -422,16 +383,6 @@ module _ {c : Channel} {s : Station} {a : Accepted} {zone desks store list : Lis
       }
 
   module _ {n : ℕ} {desked listed : List ℕ} where
-    pub afresh-lent : Afresh (desk_at s a.desk) a zone desks list n desked listed → Lent c s a zone desked store listed
-    afresh-lent (by-gap g w m l) = lent-told L (ap length w) (3 * 0) (1 ∷ 0 ∷ 0 ∷ []) l
-    afresh-lent (by-none g h w m l) = lent-told L (ap length w) (3 * 0) [] (l ∙ sym (put-nil list (3 * 0)))
-    afresh-lent (by-drop {k} g p w e m l) = lent-told L (written-length (joined p w)) (3 * 0) (k ∷ 0 ∷ 0 ∷ []) l
-
-    pub afresh-few : Afresh (desk_at s a.desk) a zone desks list n desked listed → n ≤ 1
-    afresh-few (by-gap g w m l) = omega arith
-    afresh-few (by-none g h w m l) = omega arith
-    afresh-few (by-drop g p w e m l) = omega arith
-
     pub afresh-tells : {from : ℕ} → from ≡ start_at a.pointer → Afresh (desk_at s a.desk) a zone desks list n desked listed
         → {u : Station} {i : ℕ} {desks₁ store₁ list₁ : List ℕ}
         → TellsWalked (walked_from c s desked store a [] (drop from zone)) n listed u i desks₁ store₁ list₁

@@ -21,13 +21,12 @@ fn join(a: Accepted, held: usize, zone: &[u8], desks: &mut [u8]) -> Sequel
     ensures value { result ≡ sequel_on a held desks.new }
     ensures desks_after { desks.new ≡ joined_on a held zone.now desks.old }
 {
-    let pointer = a.pointer;
     let base = Desk::SIZE * a.desk;
     let behind = base + held;
     let more = octets::least(Frame::ZONE, Desk::SIZE - held);
     octets::copy(&zone[..more], desks, behind);
     let end = behind + more;
-    zone::sequel_of(&desks[base..end], held, pointer)
+    zone::sequel_of(&desks[base..end], held, a.pointer)
 }
 
 // Where a frame is read first: at a place of its zone, with so many events told, or at the packet on its desk, which has this size.
@@ -42,25 +41,20 @@ fn begin(d: Desk, a: Accepted, zone: &[u8], desks: &mut [u8], list: &mut [u16]) 
     requires { Beginning d a zone.now desks.old list.old }
     ensures { Begins d a zone.now desks.old list.old result desks.new list.new }
 {
-    let counter = a.counter;
-    let pointer = a.pointer;
-    let from = zone::start_at(pointer);
-    if zone::is_gap(d, counter) {
+    let from = zone::start_at(a.pointer);
+    if zone::is_gap(d, a.counter) {
         let n = events::emit(list, 0, 1, 0, 0);
         return Opening::Reads(from, n);
     }
     if d.held == 0 {
         return Opening::Reads(from, 0);
     }
-    let sequel = join(a, d.held as usize, zone, desks);
-    match sequel {
+    match join(a, d.held as usize, zone, desks) {
         Sequel::Dropped(kind) => {
             let n = events::emit(list, 0, kind, 0, 0);
-            return Opening::Reads(from, n);
+            Opening::Reads(from, n)
         }
-        Sequel::CarriedOn(size) => {
-            return Opening::Carries(size);
-        }
+        Sequel::CarriedOn(size) => Opening::Carries(size),
     }
 }
 
@@ -80,16 +74,11 @@ pub fn walk_frame(
     requires desks_sound { DesksSound (station_of head owner.old slots) desks.old }
     ensures { TellsWalked (walked channel (station_of head owner.old slots) desks.old store.old zone.now a) 0 list.old (with_desk (station_of head owner.new result.slots) a.desk result.desk) result.events desks.new store.new list.new }
 {
-    let i = a.desk;
-    let before = head.desks;
-    let d = before[i];
-    let opening = begin(d, a, zone, desks, list);
-    match opening {
-        Opening::Reads(from, n) => {
-            return walk::walk_rest(
-                channel, head, owner, slots, a, zone, from, desks, store, list, n,
-            );
-        }
+    let d = head.desks[a.desk];
+    match begin(d, a, zone, desks, list) {
+        Opening::Reads(from, n) => walk::walk_rest(
+            channel, head, owner, slots, a, zone, from, desks, store, list, n,
+        ),
         Opening::Carries(size) => {
             let held = d.held as usize;
             let lacked = size - held;
@@ -97,7 +86,7 @@ pub fn walk_frame(
                 let all = held + Frame::ZONE;
                 return zone::leave(slots, a, all as u16, 0);
             }
-            let base = Desk::SIZE * i;
+            let base = Desk::SIZE * a.desk;
             let last = base + size;
             let w = walk::walk(
                 channel,
@@ -110,10 +99,9 @@ pub fn walk_frame(
                 list,
                 0,
             );
-            let after = w.slots;
-            return walk::walk_rest(
-                channel, head, owner, after, a, zone, lacked, desks, store, list, w.events,
-            );
+            walk::walk_rest(
+                channel, head, owner, w.slots, a, zone, lacked, desks, store, list, w.events,
+            )
         }
     }
 }

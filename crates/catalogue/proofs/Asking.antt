@@ -1,4 +1,6 @@
 -- What a question is answered: one law for each outcome, and where an entry of each section stands. Assumes nothing.
+use Rattle.refusals.specs.Refusals.{refuse}
+use Rattle.std.specs.Prelude.{Option, Some, None, Ok}
 use mathlib.Core.Path.{◌≡◌, refl, sym, ap, ap₂, ◌∙◌}
 use mathlib.Core.List.{List, [], ◌∷◌}
 use Prim.Native.Nat.{ℕ, ◌+◌, ◌*◌, ◌<◌, ◌≤◌}
@@ -12,9 +14,6 @@ use Rattle.sections.specs.Sections.{Row, size, values, entries}
 use Rattle.sections.proofs.Parts.{length-entries}
 use Rattle.sections.proofs.Walks.{entry_at}
 use Rattle.catalogue.specs.declared.Places.{Places}
-use Rattle.catalogue.specs.declared.Found.{Found}
-use Rattle.catalogue.specs.declared.Found.TheVariants.{At, Nowhere}
-use Rattle.catalogue.specs.declared.CatalogueRead.TheVariants as read
 use Rattle.catalogue.specs.Catalogue.{file_widths, image_widths, channel_widths, files_of, images_of, channels_of}
 use Rattle.catalogue.specs.Reading.{found_in, Lies}
 use Rattle.catalogue.specs.Asking.{catalogue_read, file_entry, image_entry, channel_entry, asked}
@@ -52,10 +51,10 @@ module _ {xs : List ℕ} {r : Places} (L : Lies xs r) where
 
 -- a question to what was found
 module _ {A : Type 0} (refused nothing : A) (there : Row → A) (xs : List ℕ) (rows : List Row) (n : ℕ) where
-  pub asked-none : {f : Found} → f ≡ found_in xs → f ≡ Nowhere → refused ≡ asked refused nothing there xs rows n
+  pub asked-none : {f : Option Places} → f ≡ found_in xs → f ≡ None → refused ≡ asked refused nothing there xs rows n
   asked-none e q = rw (found_none xs (sym e ∙ q))
 
-  module _ {p : Places} {f : Found} (e : f ≡ found_in xs) (q : f ≡ At p) where
+  module _ {p : Places} {f : Option Places} (e : f ≡ found_in xs) (q : f ≡ Some p) where
     pub asked-nothing : length rows ≤ n → nothing ≡ asked refused nothing there xs rows n
     asked-nothing h = rw ((found-lies (sym e ∙ q)).0, le-ltb n (length rows) h)
 
@@ -63,12 +62,12 @@ module _ {A : Type 0} (refused nothing : A) (there : Row → A) (xs : List ℕ) 
     asked-there h s t = s ∙ ap there (sym t) ∙ rw ((found-lies (sym e ∙ q)).0, lt-ltb n (length rows) h)
 
 -- how many entries there are
-module _ (xs : List ℕ) {f : Found} (e : f ≡ found_in xs) where
-  pub read_none : f ≡ Nowhere → read.Refused 31 ≡ catalogue_read xs
+module _ (xs : List ℕ) {f : Option Places} (e : f ≡ found_in xs) where
+  pub read_none : f ≡ None → refuse 31 ≡ catalogue_read xs
   unfolding catalogue_read
   read_none q = rw (found_none xs (sym e ∙ q))
 
-  pub read_all : {p : Places} → f ≡ At p → read.Read (record { files = p.files; images = p.images; channels = p.channels }) ≡ catalogue_read xs
+  pub read_all : {p : Places} → f ≡ Some p → Ok (record { files = p.files; images = p.images; channels = p.channels }) ≡ catalogue_read xs
   unfolding catalogue_read
   read_all {p} q =
       let h = found-lies (sym e ∙ q) in

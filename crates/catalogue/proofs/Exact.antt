@@ -1,4 +1,6 @@
 -- "Accepted exactly if it is what the writer writes for some list", and the same octets stand for the same list. Assumes nothing.
+use Rattle.catalogue.specs.declared.Picture.{Picture}
+use Rattle.std.specs.Prelude.{Option, Some, None}
 use mathlib.Core.Path.{◌≡◌, refl, sym, ap, ap₂, ◌∙◌}
 use mathlib.Core.Bool.{true, ◌&&◌, false≢true}
 use mathlib.Core.List.{List, [], ◌∷◌, ◌++◌, map}
@@ -14,8 +16,6 @@ use Rattle.octets.proofs.Decide.{decides-by, exactly}
 use Rattle.octets.proofs.Tests.{and_left, and_right, and_both}
 use Rattle.octets.proofs.Lists.{if-cases}
 use Rattle.octets.specs.Number.{Octets}
-use Rattle.catalogue.specs.declared.Image.{Image}
-use Rattle.catalogue.specs.declared.Image.TheVariants.{Absent, There}
 use Rattle.catalogue.specs.declared.Entry.{Entry}
 use Rattle.sections.specs.Sections.{Row, AllFit, Sections, sections, sections_of, whole}
 use Rattle.sections.specs.Sections.Fits.{no_field, field}
@@ -60,9 +60,9 @@ files-fit (AllGood.one {e} g gs) =
     let b : e.facts.application.0 < 65536 = omega (arith, g.free) in
     entry (field a (field b (field g.counted (field g.long (field g.octet no_field))))) (files-fit gs)
 
-image-fits : (i : ℕ) (p : Image) (rs : List Row) → i < 65536 → GoodImage p → AllFit image_widths rs → AllFit image_widths (image_row i p ++ rs)
-image-fits i Absent rs h g f = f
-image-fits i (There p) rs h (GoodImage.some a b d e) f =
+image-fits : (i : ℕ) (p : Option Picture) (rs : List Row) → i < 65536 → GoodImage p → AllFit image_widths rs → AllFit image_widths (image_row i p ++ rs)
+image-fits i None rs h g f = f
+image-fits i (Some p) rs h (GoodImage.some a b d e) f =
     entry (field h (field a (field b (field d (field e no_field))))) f
 
 pub images-fit : {es : List Entry} → AllGood es → (i : ℕ) → i + length es ≤ 65536 → AllFit image_widths (image_rows i es)
@@ -70,9 +70,9 @@ unfolding image_rows
 images-fit AllGood.none i h = no-entry
 images-fit (AllGood.one {e} {es} g gs) i h = image-fits i e.image (image_rows (suc i) es) (omega arith) g.shown (images-fit gs (suc i) (omega arith))
 
-few-image : (i : ℕ) (p : Image) → length (image_row i p) ≤ 1
-few-image i Absent = omega arith
-few-image i (There p) = omega arith
+few-image : (i : ℕ) (p : Option Picture) → length (image_row i p) ≤ 1
+few-image i None = omega arith
+few-image i (Some p) = omega arith
 
 pub few-images : (i : ℕ) (es : List Entry) → length (image_rows i es) ≤ length es
 unfolding image_rows

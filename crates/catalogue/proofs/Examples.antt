@@ -1,4 +1,5 @@
 -- Small catalogues, computed: what is written for a list of two, and octets on both sides of each bound. Assumes nothing.
+use Rattle.std.specs.Prelude.{Some, None}
 use mathlib.Core.Path.{◌≡◌, refl}
 use mathlib.Core.Bool.{true, false}
 use mathlib.Core.List.{List, [], ◌∷◌, ◌++◌}
@@ -10,21 +11,20 @@ use Rattle.facts.specs.declared.Facts.{Facts}
 use Rattle.records.specs.Records.{records, records_from, record_at, is_cut, after, place_of}
 use Rattle.records.specs.Reader.{primary_of, image_at, segment_at, image_of, segment_of}
 use Rattle.sections.specs.Sections.{rows, section, sections, entries, extent, section_of, whole}
-use Rattle.catalogue.specs.declared.Image.TheVariants.{Absent, There}
 use Rattle.catalogue.specs.declared.Entry.{Entry}
 use Rattle.catalogue.specs.Entering.{entry_for}
 use Rattle.catalogue.specs.Catalogue.{image_rows, how_many, channel_rows, written, rising, same_row, same_rows, good_tables, accepts}
 
 abbrev bulletin : Entry
 bulletin =
-    record { facts = record { channel = record { 0 = 2 }; application = record { 0 = 64 }; counter = 7; bits = 12 }; kind = 2; image = Absent }
+    record { facts = record { channel = record { 0 = 2 }; application = record { 0 = 64 }; counter = 7; bits = 12 }; kind = 2; image = None }
 
 abbrev picture : Entry
 picture =
     record {
       facts = record { channel = record { 0 = 0 }; application = record { 0 = 5 }; counter = 258; bits = 65536 };
       kind = 0;
-      image = There (record { columns = 2200; lines = 220; number = 3; total = 10 });
+      image = Some (record { columns = 2200; lines = 220; number = 3; total = 10 });
     }
 
 -- the octets of both, a line an entry
@@ -143,7 +143,7 @@ abbrev facts : Facts
 facts = picture.facts
 
 zeros-without-segment : entry_for facts image_alone
-    ≡ record { facts = facts; kind = 0; image = There (record { columns = 2200; lines = 220; number = 0; total = 0 }) }
+    ≡ record { facts = facts; kind = 0; image = Some (record { columns = 2200; lines = 220; number = 0; total = 0 }) }
 unfolding entry_for records records_from record_at is_cut after number_at number place_of primary_of image_at segment_at image_of segment_of
 zeros-without-segment = refl
 
@@ -151,6 +151,6 @@ with-segment : entry_for facts both ≡ picture
 unfolding entry_for records records_from record_at is_cut after number_at number place_of primary_of image_at segment_at image_of segment_of
 with-segment = refl
 
-no-image : entry_for facts segment_alone ≡ record { facts = facts; kind = 2; image = Absent }
+no-image : entry_for facts segment_alone ≡ record { facts = facts; kind = 2; image = None }
 unfolding entry_for records records_from record_at is_cut after number_at number place_of primary_of image_at segment_at image_of segment_of
 no-image = refl

@@ -1,5 +1,5 @@
 -- What the reader's tests say together. Assumes nothing.
-use Rattle.std.specs.Prelude.{if◌then◌else◌}
+use Rattle.std.specs.Prelude.{if◌then◌else◌, Option, Some, None}
 use mathlib.Core.Path.{◌≡◌, refl, sym, ap, ap₂, ◌∙◌, subst}
 use mathlib.Core.Bool.{Bool, true, false, not, ◌&&◌, and-false, false≢true}
 use mathlib.Core.List.{List, [], ◌∷◌, map}
@@ -16,8 +16,6 @@ use Rattle.octets.proofs.Tests.{and_left, denied, granted}
 use Rattle.catalogue.specs.declared.Places.{Places}
 use Rattle.sections.specs.Sections.{Row, size, entries, extent, section_of, whole, whole_by}
 use Rattle.catalogue.specs.Catalogue.{file_widths, image_widths, channel_widths, widths, behind_files, behind_images, files_of, images_of, channels_of, good_file, rising, same_rows, channel_rows, channel_of, counted_channels, good_tables, accepts}
-use Rattle.catalogue.specs.declared.Found.{Found}
-use Rattle.catalogue.specs.declared.Found.TheVariants.{At, Nowhere}
 use Rattle.catalogue.specs.Reading.{tallied, places_of, found_in, Lies}
 use Rattle.sections.proofs.Parts.{length-entries}
 use Rattle.sections.proofs.Chain.{whole_by_lem}
@@ -111,46 +109,46 @@ lies-all xs w =
       ends = lies-three xs w (number_at xs 0 2) (2 + number_at xs 0 2 * 14) refl refl _ _ _ refl refl refl;
     }
 
-abbrev at_places : Found → Places
-at_places (At p) = p
-at_places Nowhere = places_of []
+abbrev at_places : Option Places → Places
+at_places (Some p) = p
+at_places None = places_of []
 
-abbrev is_at : Found → Bool
-is_at (At p) = true
-is_at Nowhere = false
+abbrev is_at : Option Places → Bool
+is_at (Some p) = true
+is_at None = false
 
-at-nowhere : {p : Places} → Nowhere ≡ At p → ⊥
+at-nowhere : {p : Places} → None ≡ Some p → ⊥
 at-nowhere e = false≢true (ap is_at e)
 
 pub accepts-whole : (xs : List ℕ) → accepts xs ≡ true → whole widths xs ≡ true
 unfolding accepts
 accepts-whole xs = and_left (whole widths xs) (good_tables (files_of xs) (images_of xs) (channels_of xs))
 
-lies_so : (xs : List ℕ) → accepts xs ≡ true → (p : Places) → At (places_of xs) ≡ At p → Lies xs p
+lies_so : (xs : List ℕ) → accepts xs ≡ true → (p : Places) → Some (places_of xs) ≡ Some p → Lies xs p
 lies_so xs a p e = subst (Lies xs) (ap at_places e) (lies-all xs (accepts-whole xs a))
 
 -- what is found
-pub found-so : (xs : List ℕ) {p : Places} → accepts xs ≡ true → p ≡ places_of xs → At p ≡ found_in xs
+pub found-so : (xs : List ℕ) {p : Places} → accepts xs ≡ true → p ≡ places_of xs → Some p ≡ found_in xs
 unfolding found_in
-found-so xs a e = rw a (ap At e)
+found-so xs a e = rw a (ap Some e)
 
-pub found-not : (xs : List ℕ) → accepts xs ≡ false → Nowhere ≡ found_in xs
+pub found-not : (xs : List ℕ) → accepts xs ≡ false → None ≡ found_in xs
 unfolding found_in
 found-not xs a = rw a
 
 -- read back
-pub found-lies : {xs : List ℕ} {p : Places} → found_in xs ≡ At p → (accepts xs ≡ true) × Lies xs p
+pub found-lies : {xs : List ℕ} {p : Places} → found_in xs ≡ Some p → (accepts xs ≡ true) × Lies xs p
 unfolding found_in
 found-lies {xs} {p} e = go (accepts xs) refl e
   where
-    go : (b : Bool) → accepts xs ≡ b → (if b then At (places_of xs) else Nowhere) ≡ At p → (accepts xs ≡ true) × Lies xs p
+    go : (b : Bool) → accepts xs ≡ b → (if b then Some (places_of xs) else None) ≡ Some p → (accepts xs ≡ true) × Lies xs p
     go true a q = (a, lies_so xs a p q)
     go false a q = absurd (at-nowhere q)
 
-pub found_none : (xs : List ℕ) → found_in xs ≡ Nowhere → accepts xs ≡ false
+pub found_none : (xs : List ℕ) → found_in xs ≡ None → accepts xs ≡ false
 unfolding found_in
 found_none xs e = go (accepts xs) refl e
   where
-    go : (b : Bool) → accepts xs ≡ b → (if b then At (places_of xs) else Nowhere) ≡ Nowhere → accepts xs ≡ false
+    go : (b : Bool) → accepts xs ≡ b → (if b then Some (places_of xs) else None) ≡ None → accepts xs ≡ false
     go true a q = absurd (at-nowhere (sym q))
     go false a q = a

@@ -1,4 +1,6 @@
 -- How many octets entries and catalogues have. Assumes nothing.
+use Rattle.catalogue.specs.declared.Picture.{Picture}
+use Rattle.std.specs.Prelude.{Option, Some, None}
 use mathlib.Core.Path.{◌≡◌, refl, ap, ◌∙◌}
 use mathlib.Core.List.{List, [], ◌∷◌, ◌++◌, map}
 use Prim.Native.Nat.{ℕ, zero, suc, ◌*◌, ◌≤◌}
@@ -9,8 +11,6 @@ use Rattle.octets.proofs.Lists.{if-cases}
 use Rattle.octets.proofs.Storing.{length-in_octets}
 use Rattle.sections.specs.Sections.{Row, row, rows, section, sections}
 use Rattle.sections.proofs.Growing.{rows_append, section-length}
-use Rattle.catalogue.specs.declared.Image.{Image}
-use Rattle.catalogue.specs.declared.Image.TheVariants.{Absent, There}
 use Rattle.catalogue.specs.declared.Entry.{Entry}
 use Rattle.catalogue.specs.Catalogue.{file_widths, file_row, image_widths, image_row, image_rows, channel_widths, channel_rows, how_many, channel_of, counted_channels, written, image_of, entry_of, list_of}
 use Rattle.catalogue.proofs.Exact.{few-images, few-channels}
@@ -19,10 +19,10 @@ use Rattle.catalogue.proofs.Exact.{few-images, few-channels}
 pub file-fourteen : (e : Entry) → length (row file_widths (file_row e)) ≡ 14
 file-fourteen e = simp (length-append, length-in_octets)
 
-pub image-eight : (i : ℕ) (q : Image) → length (rows image_widths (image_row i q)) ≡ length (image_row i q) * 8
+pub image-eight : (i : ℕ) (q : Option Picture) → length (rows image_widths (image_row i q)) ≡ length (image_row i q) * 8
 unfolding rows
-image-eight i Absent = refl
-image-eight i (There p) = simp (length-append, length-in_octets)
+image-eight i None = refl
+image-eight i (Some p) = simp (length-append, length-in_octets)
 
 pub channel-three : (c n : ℕ) → length (row channel_widths (c ∷ n ∷ [])) ≡ 3
 channel-three c n = simp (length-append, length-in_octets)
@@ -84,5 +84,5 @@ unfolding list_of
 list_length i [] is = refl
 list_length i (f ∷ fs) [] = ap suc (list_length (suc i) fs [])
 list_length i (f ∷ fs) (r ∷ rs) =
-    if-cases (λ (es : List Entry). length es ≡ suc (length fs)) {x = entry_of f (image_of r) ∷ list_of (suc i) fs rs} {y = entry_of f Absent ∷ list_of (suc i) fs (r ∷ rs)} (eqb (get_or r 0 0) i)
+    if-cases (λ (es : List Entry). length es ≡ suc (length fs)) {x = entry_of f (image_of r) ∷ list_of (suc i) fs rs} {y = entry_of f None ∷ list_of (suc i) fs (r ∷ rs)} (eqb (get_or r 0 0) i)
     (λ q. ap suc (list_length (suc i) fs rs)) (λ q. ap suc (list_length (suc i) fs (r ∷ rs)))

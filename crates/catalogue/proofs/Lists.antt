@@ -1,4 +1,6 @@
 -- The list that a file section and an image section stand for, and the sections of a list. Assumes nothing.
+use Rattle.catalogue.specs.declared.Picture.{Picture}
+use Rattle.std.specs.Prelude.{Option, Some, None}
 use mathlib.Core.Path.{◌≡◌, refl, sym, ap, ap₂, ◌∙◌}
 use mathlib.Core.Bool.{true, ◌&&◌}
 use mathlib.Core.List.{List, [], ◌∷◌, ◌++◌, map}
@@ -10,8 +12,6 @@ use lib.ListN.{length, get_or}
 use Rattle.octets.specs.Each.{each}
 use Rattle.octets.proofs.Tests.{and_left, and_right, and_both}
 use Rattle.octets.proofs.Lists.{if-cases}
-use Rattle.catalogue.specs.declared.Image.{Image}
-use Rattle.catalogue.specs.declared.Image.TheVariants.{Absent, There}
 use Rattle.catalogue.specs.declared.Entry.{Entry}
 use Rattle.sections.specs.Sections.{Row, Fits, AllFit}
 use Rattle.sections.specs.Sections.Fits.{no_field, field}
@@ -35,13 +35,13 @@ unfolding rising image_rows
 rising-rows i n [] e = refl
 rising-rows i n (e ∷ es) h = go e.image refl (rising-rows (suc i) n es (omega arith))
   where
-    go : (p : Image) → e.image ≡ p → rising (suc i) n (image_rows (suc i) es) ≡ true → rising i n (image_row i p ++ image_rows (suc i) es) ≡ true
-    go Absent q k = rising-later i n (image_rows (suc i) es) k
-    go (There p) q k = and_both (and_both (le-leb i i (omega arith)) (lt-ltb i n (omega arith))) k
+    go : (p : Option Picture) → e.image ≡ p → rising (suc i) n (image_rows (suc i) es) ≡ true → rising i n (image_row i p ++ image_rows (suc i) es) ≡ true
+    go None q k = rising-later i n (image_rows (suc i) es) k
+    go (Some p) q k = and_both (and_both (le-leb i i (omega arith)) (lt-ltb i n (omega arith))) k
 
 -- a file whose index no image has
 pub list-absent : (i n : ℕ) (f : Row) (fs rs : List Row) → rising (suc i) n rs ≡ true
-    → list_of i (f ∷ fs) rs ≡ entry_of f Absent ∷ list_of (suc i) fs rs
+    → list_of i (f ∷ fs) rs ≡ entry_of f None ∷ list_of (suc i) fs rs
 unfolding list_of rising
 list-absent i n f fs [] e = refl
 list-absent i n f fs (r ∷ rs) e =
@@ -57,12 +57,12 @@ unfolding list_of image_rows
 list-rows i [] = refl
 list-rows i (e ∷ es) = go e.image refl (list-rows (suc i) es)
   where
-    go : (p : Image) → e.image ≡ p → list_of (suc i) (map file_row es) (image_rows (suc i) es) ≡ es
+    go : (p : Option Picture) → e.image ≡ p → list_of (suc i) (map file_row es) (image_rows (suc i) es) ≡ es
         → list_of i (file_row e ∷ map file_row es) (image_row i p ++ image_rows (suc i) es) ≡ e ∷ es
-    go Absent q k =
+    go None q k =
         list-absent i (suc i + length es) (file_row e) (map file_row es) (image_rows (suc i) es) (rising-rows (suc i) (suc i + length es) es refl)
         ∙ ap₂ (λ (y : Entry) (ys : List Entry). y ∷ ys) (ap (entry_of (file_row e)) (sym q)) k
-    go (There p) q k =
+    go (Some p) q k =
         rw (eq-eqb i i refl) (ap₂ (λ (y : Entry) (ys : List Entry). y ∷ ys) (ap (entry_of (file_row e)) (sym q)) k)
 
 -- what two sections stand for has these sections, and is good
@@ -71,10 +71,10 @@ pub record Reads (i : ℕ) (fs is : List Row) (es : List Entry) : Type 0 where
   pub images : image_rows i es ≡ is
   pub good : AllGood es
 
-file-back : (f : Row) (p : Image) → Fits file_widths f → file_row (entry_of f p) ≡ f
+file-back : (f : Row) (p : Option Picture) → Fits file_widths f → file_row (entry_of f p) ≡ f
 file-back f p (field a (field b (field c (field d (field e no_field))))) = refl
 
-file-good : (f : Row) (p : Image) → Fits file_widths f → good_file f ≡ true → GoodImage p → GoodEntry (entry_of f p)
+file-good : (f : Row) (p : Option Picture) → Fits file_widths f → good_file f ≡ true → GoodImage p → GoodEntry (entry_of f p)
 file-good f p (field {v = u} a (field {v = v} b (field c (field {v = w} d (field e no_field))))) h g =
     let ab = and_left (leb u 62 && leb v 2015) (leb 1 w) h in
     record {
@@ -94,13 +94,13 @@ image-back : (i : ℕ) (r : Row) → Fits image_widths r → get_or r 0 0 ≡ i 
 image-back i r (field {v = x} a (field b (field c (field d (field e no_field))))) q = rw q
 
 module _ {i : ℕ} {f : Row} {fs is : List Row} {es : List Entry} (fits : Fits file_widths f) (g : good_file f ≡ true) (r : Reads (suc i) fs is es) where
-  reads-absent : Reads i (f ∷ fs) is (entry_of f Absent ∷ es)
+  reads-absent : Reads i (f ∷ fs) is (entry_of f None ∷ es)
   unfolding image_rows
   reads-absent =
       record {
-        files = ap₂ (λ (y : Row) (ys : List Row). y ∷ ys) (file-back f Absent fits) r.files;
+        files = ap₂ (λ (y : Row) (ys : List Row). y ∷ ys) (file-back f None fits) r.files;
         images = r.images;
-        good = AllGood.one (file-good f Absent fits g GoodImage.none) r.good;
+        good = AllGood.one (file-good f None fits g GoodImage.none) r.good;
       }
 
   reads-there : (x : Row) → Fits image_widths x → get_or x 0 0 ≡ i → Reads i (f ∷ fs) (x ∷ is) (entry_of f (image_of x) ∷ es)

@@ -1,4 +1,7 @@
 -- What entering does to the catalogue of a list, and a whole night. Assumes nothing.
+use Rattle.refusals.specs.declared.Refusal.{Refusal}
+use Rattle.refusals.specs.Refusals.{refuse}
+use Rattle.std.specs.Prelude.{Option, Some, None, Result, Ok, Err}
 use mathlib.Core.Path.{◌≡◌, refl, sym, ap, ap₂, ◌∙◌, subst}
 use mathlib.Core.Bool.{Bool, true, false, not, ◌&&◌, and-false, false≢true}
 use mathlib.Core.List.{List, [], ◌∷◌, ◌++◌, append-nil, append_assoc}
@@ -13,23 +16,15 @@ use Rattle.octets.specs.Buffer.{put}
 use Rattle.octets.specs.Reasons.{decided}
 use Rattle.octets.proofs.Numbers.{octets-take, number_at-below}
 use Rattle.octets.proofs.Put.{put-parts, length-put}
-use Rattle.octets.proofs.Reasons.{First, None, decided-cases, first-decided, none-decided, decided-append, none-append}
+use Rattle.octets.proofs.Reasons.{First, NoneApplies, decided-cases, first-decided, none-decided, decided-append, none-append}
 use Rattle.octets.proofs.Reasons.First.{here, later}
 use Rattle.octets.proofs.Tests.{and_left, and_right, and_both}
 use Rattle.records.specs.Table.{fixed_types, header_length}
 use Rattle.records.specs.Records.{field_of, header_of, header_says, records, place_of}
 use Rattle.records.specs.Reader.{read_header, fields_of, primary_of, image_at, image_of, segment_at, segment_of, if_there}
 use Rattle.records.specs.declared.Header.{Header}
-use Rattle.records.specs.declared.HeaderRead.{HeaderRead}
-use Rattle.records.specs.declared.HeaderRead.TheVariants as header
-use Rattle.records.specs.declared.HeaderAnswer.{HeaderAnswer}
-use Rattle.records.specs.declared.Stands.{Stands}
-use Rattle.records.specs.declared.Stands.TheVariants as stands
-use Rattle.records.specs.declared.ImageStructure.TheVariants as image
-use Rattle.records.specs.declared.ImageSegment.TheVariants as segment
 use Rattle.facts.specs.declared.Facts.{Facts}
 use Rattle.catalogue.specs.declared.Entry.{Entry}
-use Rattle.catalogue.specs.declared.Entered.TheVariants.{Refused, Now}
 use Rattle.catalogue.specs.Catalogue.{file_row, written, Good, GoodImage, GoodEntry, AllGood, good_file, accepts, files_of, list_of, listed}
 use Rattle.catalogue.specs.Entering.{image_facts, entry_for, entered, held, entry_says, Outcome, gives, entry_entered, file_entered}
 use Rattle.catalogue.specs.Night.{Kept, Handed, kept_by, outcome, after, night, entered_by, all_entered, Typed, AllTyped}
@@ -48,25 +43,25 @@ unfolding entered
 entered-written g e = ap (λ (ds : List Entry). written (ds ++ (e ∷ []))) (listed-written g)
 
 -- a header that is refused, and one that is read
-abbrev is_read : HeaderRead → Bool
-is_read (header.Refused n) = false
-is_read (header.Read h) = true
+abbrev is_read : Result Header Refusal → Bool
+is_read (Err n) = false
+is_read (Ok h) = true
 
-abbrev number_of : HeaderRead → ℕ
-number_of (header.Refused n) = n
-number_of (header.Read h) = 0
+abbrev number_of : Result Header Refusal → ℕ
+number_of (Err n) = n.0
+number_of (Ok h) = 0
 
-pub header_refused : (file : List ℕ) (n : ℕ) → (read_header file).read ≡ header.Refused n → First (header_says fixed_types file) n
+pub header_refused : (file : List ℕ) (n : ℕ) → read_header file ≡ refuse n → First (header_says fixed_types file) n
 unfolding read_header fields_of
 header_refused file n =
-    decided-cases (λ (a : HeaderAnswer). a.read ≡ header.Refused n → First (header_says fixed_types file) n) (header_says fixed_types file)
+    decided-cases (λ (a : Result Header Refusal). a ≡ refuse n → First (header_says fixed_types file) n) (header_says fixed_types file)
     (λ none e. absurd (false≢true (sym (ap is_read e))))
     (λ m first e. subst (First (header_says fixed_types file)) (ap number_of e) first)
 
-pub header_read : (file : List ℕ) (h : Header) → (read_header file).read ≡ header.Read h → None (header_says fixed_types file)
+pub header_read : (file : List ℕ) (h : Header) → read_header file ≡ Ok h → NoneApplies (header_says fixed_types file)
 unfolding read_header
 header_read file h =
-    decided-cases (λ (a : HeaderAnswer). a.read ≡ header.Read h → None (header_says fixed_types file)) (header_says fixed_types file)
+    decided-cases (λ (a : Result Header Refusal). a ≡ Ok h → NoneApplies (header_says fixed_types file)) (header_says fixed_types file)
     (λ none e. none)
     (λ m first e. absurd (false≢true (ap is_read e)))
 
@@ -76,22 +71,22 @@ module _ (b : List ℕ) (used : ℕ) (f : Facts) (file : List ℕ) where
   X = entered (take used b) (entry_for f file)
 
   abbrev done : Outcome
-  done = gives (Now (length X)) (put b 0 X)
+  done = gives (Ok (length X)) (put b 0 X)
 
-  abbrev refuse : ℕ → Outcome
-  refuse n = gives (Refused n) b
+  abbrev refusing : ℕ → Outcome
+  refusing n = gives (refuse n) b
 
-  pub refused-header : {n : ℕ} → First (header_says fixed_types file) n → file_entered b used f file ≡ gives (Refused n) b
+  pub refused-header : {n : ℕ} → First (header_says fixed_types file) n → file_entered b used f file ≡ gives (refuse n) b
   unfolding file_entered
   refused-header first =
-      decided-append done refuse (header_says fixed_types file) (entry_says b used (entry_for f file))
-      ∙ first-decided (decided (entry_says b used (entry_for f file)) done refuse) refuse first
+      decided-append done refusing (header_says fixed_types file) (entry_says b used (entry_for f file))
+      ∙ first-decided (decided (entry_says b used (entry_for f file)) done refusing) refusing first
 
-  pub read-header : None (header_says fixed_types file) → file_entered b used f file ≡ entry_entered b used (entry_for f file)
+  pub read-header : NoneApplies (header_says fixed_types file) → file_entered b used f file ≡ entry_entered b used (entry_for f file)
   unfolding file_entered entry_entered
   read-header none =
-      decided-append done refuse (header_says fixed_types file) (entry_says b used (entry_for f file))
-      ∙ none-decided (decided (entry_says b used (entry_for f file)) done refuse) refuse (header_says fixed_types file) none
+      decided-append done refusing (header_says fixed_types file) (entry_says b used (entry_for f file))
+      ∙ none-decided (decided (entry_says b used (entry_for f file)) done refusing) refusing (header_says fixed_types file) none
 
 -- facts that a catalogue can have
 pub facts-good : (e : Entry) → GoodFacts e.facts → good_file (file_row e) ≡ true
@@ -114,11 +109,11 @@ module _ (b : List ℕ) (used : ℕ) (e : Entry) where
   abbrev Y : List ℕ
   Y = entered (take used b) e
 
-  by_first : {n : ℕ} → First (entry_says b used e) n → entry_entered b used e ≡ gives (Refused n) b
+  by_first : {n : ℕ} → First (entry_says b used e) n → entry_entered b used e ≡ gives (refuse n) b
   unfolding entry_entered
-  by_first first = first-decided (gives (Now (length Y)) (put b 0 Y)) (λ (n : ℕ). gives (Refused n) b) first
+  by_first first = first-decided (gives (Ok (length Y)) (put b 0 Y)) (λ (n : ℕ). gives (refuse n) b) first
 
-  pub none-there : held b used ≡ false → entry_entered b used e ≡ gives (Refused 31) b
+  pub none-there : held b used ≡ false → entry_entered b used e ≡ gives (refuse 31) b
   none-there h =
       let p : (held b used && eqb (length (files_of (take used b))) 1024) ≡ false = rw h in
       let q : not (held b used && good_file (file_row e)) ≡ true = rw h in
@@ -134,7 +129,7 @@ module _ (b : List ℕ) (used : ℕ) (e : Entry) where
     new : Y ≡ written (es ++ (e ∷ []))
     new = ap (λ (ys : List ℕ). entered ys e) is ∙ entered-written g e
 
-    pub when-full : length es ≡ 1024 → entry_entered b used e ≡ gives (Refused 30) b
+    pub when-full : length es ≡ 1024 → entry_entered b used e ≡ gives (refuse 30) b
     when-full q =
         let p : (held b used && eqb (length (files_of (take used b))) 1024) ≡ true = and_both is_held (eq-eqb (length (files_of (take used b))) 1024 (files-n ∙ q)) in
         by_first (here p)
@@ -143,7 +138,7 @@ module _ (b : List ℕ) (used : ℕ) (e : Entry) where
       not_full : (held b used && eqb (length (files_of (take used b))) 1024) ≡ false
       not_full = rw (ne_eqb (length (files_of (take used b))) 1024 (λ q. omega (arith, files-n)), and-false)
 
-      pub when-bad : good_file (file_row e) ≡ false → entry_entered b used e ≡ gives (Refused 31) b
+      pub when-bad : good_file (file_row e) ≡ false → entry_entered b used e ≡ gives (refuse 31) b
       when-bad h =
           let p : not (held b used && good_file (file_row e)) ≡ true = rw (h, and-false) in
           by_first (later not_full (here p))
@@ -152,27 +147,27 @@ module _ (b : List ℕ) (used : ℕ) (e : Entry) where
         right : not (held b used && good_file (file_row e)) ≡ false
         right = rw (is_held, good)
 
-        pub when-short : length b < length (written (es ++ (e ∷ []))) → entry_entered b used e ≡ gives (Refused 34) b
+        pub when-short : length b < length (written (es ++ (e ∷ []))) → entry_entered b used e ≡ gives (refuse 34) b
         when-short h = by_first (later not_full (later right (here (lt-ltb (length b) (length Y) (omega (arith, ap length new))))))
 
         pub when-done : length (written (es ++ (e ∷ []))) ≤ length b
-            → entry_entered b used e ≡ gives (Now (length (written (es ++ (e ∷ []))))) (put b 0 (written (es ++ (e ∷ []))))
+            → entry_entered b used e ≡ gives (Ok (length (written (es ++ (e ∷ []))))) (put b 0 (written (es ++ (e ∷ []))))
         unfolding entry_entered
         when-done h =
-            none-decided (gives (Now (length Y)) (put b 0 Y)) (λ (n : ℕ). gives (Refused n) b) (entry_says b used e)
+            none-decided (gives (Ok (length Y)) (put b 0 Y)) (λ (n : ℕ). gives (refuse n) b) (entry_says b used e)
             (not_full, (right, (le-ltb (length b) (length Y) (omega (arith, ap length new)), tt)))
-            ∙ ap (λ (ys : List ℕ). gives (Now (length ys)) (put b 0 ys)) new
+            ∙ ap (λ (ys : List ℕ). gives (Ok (length ys)) (put b 0 ys)) new
 
 -- what a header says has room in its fields
 module _ (xs : List ℕ) (o : Octets xs) where
-  image-typed : (s t : Stands) → GoodImage
-      (image_facts (if_there (λ p. image.There (image_at xs p)) image.Absent s) (if_there (λ p. segment.There (segment_at xs p)) segment.Absent t))
+  image-typed : (s t : Option ℕ) → GoodImage
+      (image_facts (if_there (λ p. Some (image_at xs p)) None s) (if_there (λ p. Some (segment_at xs p)) None t))
   unfolding image_at segment_at
-  image-typed stands.Nowhere t = GoodImage.none
-  image-typed (stands.At p) stands.Nowhere =
+  image-typed None t = GoodImage.none
+  image-typed (Some p) None =
       let zero-fits : 0 < 256 = omega arith in
       GoodImage.some (number_at-below xs (p + 4) 2 o) (number_at-below xs (p + 6) 2 o) zero-fits zero-fits
-  image-typed (stands.At p) (stands.At q) =
+  image-typed (Some p) (Some q) =
       GoodImage.some (number_at-below xs (p + 4) 2 o) (number_at-below xs (p + 6) 2 o) (number_at-below xs (q + 3) 1 o) (number_at-below xs (q + 4) 1 o)
 
 entry-good : (h : Handed) → Typed h → good_file (file_row (entry_for h.facts h.file)) ≡ true → GoodEntry (entry_for h.facts h.file)
@@ -221,7 +216,7 @@ step_right k h {long} {es} t r =
     e : Entry
     e = entry_for h.facts h.file
 
-    entered-right : None (entry_says k.buffer k.used e)
+    entered-right : NoneApplies (entry_says k.buffer k.used e)
         → Right (record { buffer = put k.buffer 0 (entered (take k.used k.buffer) e); used = length (entered (take k.used k.buffer) e) }) long (es ++ (e ∷ []))
     entered-right none =
         let b = k.buffer in

@@ -1,4 +1,8 @@
 -- All that is promised of catalogues. Assumes nothing.
+use Rattle.records.specs.declared.Header.{Header}
+use Rattle.refusals.specs.declared.Refusal.{Refusal}
+use Rattle.refusals.specs.Refusals.{refuse}
+use Rattle.std.specs.Prelude.{Result, Ok, Err}
 use mathlib.Core.Path.{◌≡◌, refl, sym, ap, ◌∙◌, subst}
 use mathlib.Core.Bool.{Bool, true, false, ◌&&◌, false≢true}
 use mathlib.Core.List.{List, [], ◌∷◌, ◌++◌, map}
@@ -21,13 +25,10 @@ use Rattle.records.specs.Table.{fixed_types}
 use Rattle.records.specs.Records.{header_says}
 use Rattle.records.specs.Reader.{read_header, header_number}
 use Rattle.records.specs.Together.{ZeroOr}
-use Rattle.records.specs.declared.HeaderAnswer.{HeaderAnswer}
 use Rattle.records.proofs.Together.{header-answers}
 use Rattle.facts.specs.declared.Facts.{Facts}
 use Rattle.sections.specs.Sections.{rows, section, sections}
 use Rattle.catalogue.specs.declared.Entry.{Entry}
-use Rattle.catalogue.specs.declared.Entered.{Entered}
-use Rattle.catalogue.specs.declared.Entered.TheVariants.{Refused, Now}
 use Rattle.catalogue.specs.Catalogue.{file_row, image_rows, how_many, channel_rows, counted_channels, written, Good, AllGood, Catalogue, good_file, accepts, files_of, images_of, channels_of, listed}
 use Rattle.catalogue.specs.Asking.{catalogue_read, file_asked, image_asked, channel_asked}
 use Rattle.catalogue.specs.Entering.{entry_for, entered, held, entry_says, enter_says, Outcome, gives, entry_entered, file_entered, begun}
@@ -136,20 +137,20 @@ entering-says : (b : List ℕ) (used : ℕ) (f : Facts) (file : List ℕ)
 unfolding file_entered
 entering-says b used f file =
     let w = entered (take used b) (entry_for f file) in
-    decided-map (λ (r : Outcome). entered_said r.answer) (enter_says b used f file) (gives (Now (length w)) (put b 0 w)) (λ (n : ℕ). gives (Refused n) b)
+    decided-map (λ (r : Outcome). entered_said r.answer) (enter_says b used f file) (gives (Ok (length w)) (put b 0 w)) (λ (n : ℕ). gives (refuse n) b)
 
 -- a long enough buffer
-abbrev number_of : Entered → ℕ
-number_of (Refused n) = n
-number_of (Now n) = 0
+abbrev number_of : Result ℕ Refusal → ℕ
+number_of (Err n) = n.0
+number_of (Ok n) = 0
 
-abbrev is-now : Entered → Bool
-is-now (Refused n) = false
-is-now (Now n) = true
+abbrev is-now : Result ℕ Refusal → Bool
+is-now (Err n) = false
+is-now (Ok n) = true
 
-abbrev size_of : Entered → ℕ
-size_of (Refused n) = 0
-size_of (Now n) = n
+abbrev size_of : Result ℕ Refusal → ℕ
+size_of (Err n) = 0
+size_of (Ok n) = n
 
 new-length : (xs : List ℕ) (e : Entry) → length (files_of xs) ≤ 1024 → (length (files_of xs) ≡ 1024 → ⊥) → length (entered xs e) ≤ 22723
 unfolding entered listed
@@ -157,12 +158,12 @@ new-length xs e few other =
     longest (listed xs ++ (e ∷ [])) (omega (arith, length-append (listed xs) (e ∷ []), list_length 0 (files_of xs) (images_of xs), few, other))
 
 module _ (b : List ℕ) (o : Octets b) (long : 22723 ≤ length b) (used : ℕ) where
-  enough : (e : Entry) → (entry_entered b used e).answer ≡ Refused 34 → ⊥
+  enough : (e : Entry) → (entry_entered b used e).answer ≡ refuse 34 → ⊥
   unfolding entry_entered
   enough e =
       let w = entered (take used b) e in
-      decided-cases (λ (r : Outcome). r.answer ≡ Refused 34 → ⊥) (entry_says b used e) {done = gives (Now (length w)) (put b 0 w)}
-      {refused = λ n. gives (Refused n) b}
+      decided-cases (λ (r : Outcome). r.answer ≡ refuse 34 → ⊥) (entry_says b used e) {done = gives (Ok (length w)) (put b 0 w)}
+      {refused = λ n. gives (refuse n) b}
       (λ none q. false≢true (sym (ap is-now q))) (λ n first q. go n first (ap number_of q))
     where
       go : (n : ℕ) → First (entry_says b used e) n → n ≡ 34 → ⊥
@@ -177,10 +178,10 @@ module _ (b : List ℕ) (o : Octets b) (long : 22723 ≤ length b) (used : ℕ) 
           omega (arith, ltb-true (length b) (length (entered xs e)) s, new-length xs e few other)
       go n (later p (later r (later _ s))) q = elim s [ ]
 
-  never-34 : (f : Facts) (file : List ℕ) → (file_entered b used f file).answer ≡ Refused 34 → ⊥
+  never-34 : (f : Facts) (file : List ℕ) → (file_entered b used f file).answer ≡ refuse 34 → ⊥
   unfolding read_header
   never-34 f file q =
-      decided-cases (λ (a : HeaderAnswer). ZeroOr 20 26 (header_number a.read) → ⊥) (header_says fixed_types file)
+      decided-cases (λ (a : Result Header Refusal). ZeroOr 20 26 (header_number a) → ⊥) (header_says fixed_types file)
       (λ none z. enough (entry_for f file) (ap (λ (r : Outcome). r.answer) (sym (read-header b used f file none)) ∙ q))
       (λ n first z. other n (ap (λ (r : Outcome). number_of r.answer) (sym (refused-header b used f file first)) ∙ ap number_of q) z)
       (header-answers file)
@@ -188,12 +189,12 @@ module _ (b : List ℕ) (o : Octets b) (long : 22723 ≤ length b) (used : ℕ) 
       other : (n : ℕ) → n ≡ 34 → ZeroOr 20 26 n → ⊥
       other n e z = ⊎_elim (λ y. omega arith) (λ y. omega (arith, y.1)) z
 
-behind : (b : List ℕ) (used : ℕ) (f : Facts) (file : List ℕ) (n : ℕ) → (file_entered b used f file).answer ≡ Now n
+behind : (b : List ℕ) (used : ℕ) (f : Facts) (file : List ℕ) (n : ℕ) → (file_entered b used f file).answer ≡ Ok n
     → drop n (file_entered b used f file).buffer ≡ drop n b
 unfolding file_entered
 behind b used f file n =
     let w = entered (take used b) (entry_for f file) in
-    decided-cases (λ (r : Outcome). r.answer ≡ Now n → drop n r.buffer ≡ drop n b) (header_says fixed_types file ++ entry_says b used (entry_for f file))
+    decided-cases (λ (r : Outcome). r.answer ≡ Ok n → drop n r.buffer ≡ drop n b) (header_says fixed_types file ++ entry_says b used (entry_for f file))
     (λ none q. drop-put-after w b 0 n (omega (arith, ap size_of q)))
     (λ m first q. absurd (false≢true (ap is-now q)))
 

@@ -19,84 +19,86 @@ use Rattle.sections.specs.Sections.{values, entries, whole}
 use Rattle.catalogue.specs.Catalogue.{file_widths, image_widths, channel_widths, widths, good_file, rising}
 
 -- files
-pub record Filing (s : List ℕ) (at n i p : ℕ) : Type 0 where
+pub record Filing (s : List ℕ) (at n i : ℕ) : Type 0 where
   pub room : at + n * 14 ≤ length s
-  pub within : i ≤ n
-  pub place : p ≡ at + i * 14
-  pub gives : each good_file (entries file_widths n (drop at s)) ≡ each good_file (entries file_widths (n - i) (drop p s))
+  pub gives : each good_file (entries file_widths n (drop at s)) ≡ each good_file (entries file_widths (n - i) (drop (at + i * 14) s))
 
-pub filing : (s : List ℕ) (at n : ℕ) → at + n * 14 ≤ length s → Filing s at n 0 at
-filing s at n h = record { room = h; within = omega arith; place = omega arith; gives = rw sub-zero }
+pub filing : (s : List ℕ) (at n : ℕ) → at + n * 14 ≤ length s → Filing s at n 0
+filing s at n h = record { room = h; gives = rw (sub-zero, add-zero) }
 
-module _ {s : List ℕ} {at n i p : ℕ} (F : Filing s at n i p) where
+module _ {s : List ℕ} {at n i : ℕ} (F : Filing s at n i) where
   abbrev all_files : Bool
   all_files = each good_file (entries file_widths n (drop at s))
 
-  file-turn : i < n → all_files ≡ (leb (get_or s p 0) 62 && leb (number_at s (p + 1) 2) 2015 && leb 1 (number_at s (p + 5) 8)
-      && each good_file (entries file_widths (n - (i + 1)) (drop (p + 14) s)))
-  file-turn h =
-      let z : number_at (drop p s) 0 1 ≡ get_or s p 0
-      = number_at-drop p s 0 1 ∙ ap (λ (k : ℕ). number_at s k 1) (add-zero p) ∙ number_at-one s p (omega (arith, F.room, F.place)) in
-      F.gives ∙ ap (each good_file) (entries_next file_widths s p n i h)
-      ∙ each-cons good_file (values file_widths (drop p s) 0) (entries file_widths (n - (i + 1)) (drop (p + 14) s))
-      ∙ rw (z, number_at-drop p s 1 2, number_at-drop p s 5 8)
+  -- the place of file i
+  abbrev file_place : ℕ
+  file_place = at + i * 14
 
-  pub file-good : i < n → get_or s p 0 ≤ 62 → number_at s (p + 1) 2 ≤ 2015 → 1 ≤ number_at s (p + 5) 8 → Filing s at n (i + 1) (p + 14)
+  file-turn : i < n → all_files ≡ (leb (get_or s file_place 0) 62 && leb (number_at s (file_place + 1) 2) 2015 && leb 1 (number_at s (file_place + 5) 8)
+      && each good_file (entries file_widths (n - (i + 1)) (drop (file_place + 14) s)))
+  file-turn h =
+      let z : number_at (drop file_place s) 0 1 ≡ get_or s file_place 0
+      = number_at-drop file_place s 0 1 ∙ ap (λ (k : ℕ). number_at s k 1) (add-zero file_place) ∙ number_at-one s file_place (omega (arith, F.room)) in
+      F.gives ∙ ap (each good_file) (entries_next file_widths s file_place n i h)
+      ∙ each-cons good_file (values file_widths (drop file_place s) 0) (entries file_widths (n - (i + 1)) (drop (file_place + 14) s))
+      ∙ rw (z, number_at-drop file_place s 1 2, number_at-drop file_place s 5 8)
+
+  pub file-good : i < n → get_or s file_place 0 ≤ 62 → number_at s (file_place + 1) 2 ≤ 2015 → 1 ≤ number_at s (file_place + 5) 8 → Filing s at n (i + 1)
   file-good h a b c =
+      let next : at + (i + 1) * 14 ≡ file_place + 14 = omega arith in
       record {
         room = F.room;
-        within = omega arith;
-        place = omega (arith, F.place);
-        gives = file-turn h ∙ rw (le-leb (get_or s p 0) 62 a, le-leb (number_at s (p + 1) 2) 2015 b, le-leb 1 (number_at s (p + 5) 8) c);
+        gives = rw next (file-turn h ∙ rw (le-leb (get_or s file_place 0) 62 a, le-leb (number_at s (file_place + 1) 2) 2015 b, le-leb 1 (number_at s (file_place + 5) 8) c));
       }
 
-  pub file-bad : i < n → (62 < get_or s p 0) ⊎ ((2015 < number_at s (p + 1) 2) ⊎ (number_at s (p + 5) 8 < 1)) → false ≡ all_files
+  pub file-bad : i < n → (62 < get_or s file_place 0) ⊎ ((2015 < number_at s (file_place + 1) 2) ⊎ (number_at s (file_place + 5) 8 < 1)) → false ≡ all_files
   file-bad h q =
-      sym (file-turn h ∙ ⊎_elim (λ a. rw (lt-leb (get_or s p 0) 62 a))
-      (⊎_elim (λ b. rw (lt-leb (number_at s (p + 1) 2) 2015 b, and-false)) (λ c. rw (lt-leb 1 (number_at s (p + 5) 8) c, and-false))) q)
+      sym (file-turn h ∙ ⊎_elim (λ a. rw (lt-leb (get_or s file_place 0) 62 a))
+      (⊎_elim (λ b. rw (lt-leb (number_at s (file_place + 1) 2) 2015 b, and-false)) (λ c. rw (lt-leb 1 (number_at s (file_place + 5) 8) c, and-false))) q)
 
   pub file-end : n ≤ i → true ≡ all_files
   unfolding each
-  file-end h = sym (F.gives ∙ ap (each good_file) (entries_none file_widths s p n i h))
+  file-end h = sym (F.gives ∙ ap (each good_file) (entries_none file_widths s file_place n i h))
 
 -- images
-pub record Indexing (s : List ℕ) (at m n i p least : ℕ) : Type 0 where
+pub record Indexing (s : List ℕ) (at m n i least : ℕ) : Type 0 where
   pub room : at + m * 8 ≤ length s
-  pub within : i ≤ m
-  pub place : p ≡ at + i * 8
-  pub gives : rising 0 n (entries image_widths m (drop at s)) ≡ rising least n (entries image_widths (m - i) (drop p s))
+  pub gives : rising 0 n (entries image_widths m (drop at s)) ≡ rising least n (entries image_widths (m - i) (drop (at + i * 8) s))
 
-pub indexing : (s : List ℕ) (at m n : ℕ) → at + m * 8 ≤ length s → Indexing s at m n 0 at 0
-indexing s at m n h = record { room = h; within = omega arith; place = omega arith; gives = rw sub-zero }
+pub indexing : (s : List ℕ) (at m n : ℕ) → at + m * 8 ≤ length s → Indexing s at m n 0 0
+indexing s at m n h = record { room = h; gives = rw (sub-zero, add-zero) }
 
-module _ {s : List ℕ} {at m n i p least : ℕ} (I : Indexing s at m n i p least) where
+module _ {s : List ℕ} {at m n i least : ℕ} (I : Indexing s at m n i least) where
   abbrev all_images : Bool
   all_images = rising 0 n (entries image_widths m (drop at s))
 
-  image-turn : i < m → all_images ≡ (leb least (number_at s p 2) && ltb (number_at s p 2) n
-      && rising (suc (number_at s p 2)) n (entries image_widths (m - (i + 1)) (drop (p + 8) s)))
+  -- the place of image i
+  abbrev image_place : ℕ
+  image_place = at + i * 8
+
+  image-turn : i < m → all_images ≡ (leb least (number_at s image_place 2) && ltb (number_at s image_place 2) n
+      && rising (suc (number_at s image_place 2)) n (entries image_widths (m - (i + 1)) (drop (image_place + 8) s)))
   unfolding rising
   image-turn h =
-      let z : number_at (drop p s) 0 2 ≡ number_at s p 2 = number_at-drop p s 0 2 ∙ ap (λ (k : ℕ). number_at s k 2) (add-zero p) in
-      I.gives ∙ ap (rising least n) (entries_next image_widths s p m i h) ∙ rw z
+      let z : number_at (drop image_place s) 0 2 ≡ number_at s image_place 2 = number_at-drop image_place s 0 2 ∙ ap (λ (k : ℕ). number_at s k 2) (add-zero image_place) in
+      I.gives ∙ ap (rising least n) (entries_next image_widths s image_place m i h) ∙ rw z
 
-  pub image-good : i < m → {x : ℕ} → x ≡ number_at s p 2 → least ≤ x → x < n → Indexing s at m n (i + 1) (p + 8) (x + 1)
+  pub image-good : i < m → {x : ℕ} → x ≡ number_at s image_place 2 → least ≤ x → x < n → Indexing s at m n (i + 1) (x + 1)
   image-good h {x} q a b =
-      let y : x + 1 ≡ suc (number_at s p 2) = omega arith in
+      let y : x + 1 ≡ suc (number_at s image_place 2) = omega arith in
+      let next : at + (i + 1) * 8 ≡ image_place + 8 = omega arith in
       record {
         room = I.room;
-        within = omega arith;
-        place = omega (arith, I.place);
-        gives = rw y (image-turn h ∙ rw (le-leb least (number_at s p 2) (omega arith), lt-ltb (number_at s p 2) n (omega arith)));
+        gives = rw (next, y) (image-turn h ∙ rw (le-leb least (number_at s image_place 2) (omega arith), lt-ltb (number_at s image_place 2) n (omega arith)));
       }
 
-  pub image-bad : i < m → {x : ℕ} → x ≡ number_at s p 2 → (x < least) ⊎ (n ≤ x) → false ≡ all_images
+  pub image-bad : i < m → {x : ℕ} → x ≡ number_at s image_place 2 → (x < least) ⊎ (n ≤ x) → false ≡ all_images
   image-bad h {x} q =
-      ⊎_elim (λ a. sym (image-turn h ∙ rw (lt-leb least (number_at s p 2) (omega arith)))) (λ b. sym (image-turn h ∙ rw (le-ltb (number_at s p 2) n (omega arith), and-false)))
+      ⊎_elim (λ a. sym (image-turn h ∙ rw (lt-leb least (number_at s image_place 2) (omega arith)))) (λ b. sym (image-turn h ∙ rw (le-ltb (number_at s image_place 2) n (omega arith), and-false)))
 
   pub image-end : m ≤ i → true ≡ all_images
   unfolding rising
-  image-end h = sym (I.gives ∙ ap (rising least n) (entries_none image_widths s p m i h))
+  image-end h = sym (I.gives ∙ ap (rising least n) (entries_none image_widths s image_place m i h))
 
 -- the sections by their places
 module _ (s : List ℕ) where

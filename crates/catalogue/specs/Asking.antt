@@ -1,25 +1,20 @@
 -- Questions to a catalogue: how many entries each section has, and an entry by its number, from 0. Assumes nothing.
-use Rattle.std.specs.Prelude.{List, [], ℕ, ltb, length, get_or, if◌then◌else◌}
+use Rattle.catalogue.specs.declared.Sizes.{Sizes}
+use Rattle.refusals.specs.declared.Refusal.{Refusal}
+use Rattle.refusals.specs.Refusals.{refuse}
+use Rattle.std.specs.Prelude.{List, [], ℕ, ltb, length, get_or, if◌then◌else◌, Option, Some, None, Result, Ok}
 use Rattle.sections.specs.Sections.{Row}
-use Rattle.catalogue.specs.declared.CatalogueRead.{CatalogueRead}
-use Rattle.catalogue.specs.declared.CatalogueRead.TheVariants as read
 use Rattle.catalogue.specs.declared.FileEntry.{FileEntry}
-use Rattle.catalogue.specs.declared.FileAsked.{FileAsked}
-use Rattle.catalogue.specs.declared.FileAsked.TheVariants as file
 use Rattle.catalogue.specs.declared.ImageEntry.{ImageEntry}
-use Rattle.catalogue.specs.declared.ImageAsked.{ImageAsked}
-use Rattle.catalogue.specs.declared.ImageAsked.TheVariants as image
 use Rattle.catalogue.specs.declared.ChannelEntry.{ChannelEntry}
-use Rattle.catalogue.specs.declared.ChannelAsked.{ChannelAsked}
-use Rattle.catalogue.specs.declared.ChannelAsked.TheVariants as channel
 use Rattle.catalogue.specs.Catalogue.{accepts, files_of, images_of, channels_of, facts_of, picture_of}
 
 -- "otherwise refusal 31"
-unfoldable pub catalogue_read : List ℕ → CatalogueRead
+unfoldable pub catalogue_read : List ℕ → Result Sizes Refusal
 catalogue_read xs =
     if accepts xs
-    then read.Read (record { files = length (files_of xs); images = length (images_of xs); channels = length (channels_of xs) })
-    else read.Refused 31
+    then Ok (record { files = length (files_of xs); images = length (images_of xs); channels = length (channels_of xs) })
+    else refuse 31
 
 -- a row of each section, as an entry
 abbrev pub file_entry : Row → FileEntry
@@ -36,11 +31,11 @@ abbrev pub asked : {A : Type 0} → A → A → (Row → A) → List ℕ → Lis
 asked refused nothing there xs rows n =
     if accepts xs then (if ltb n (length rows) then there (get_or rows n []) else nothing) else refused
 
-unfoldable pub file_asked : List ℕ → ℕ → FileAsked
-file_asked xs n = asked (file.Refused 31) file.Nothing (λ (r : Row). file.There (file_entry r)) xs (files_of xs) n
+unfoldable pub file_asked : List ℕ → ℕ → Result (Option FileEntry) Refusal
+file_asked xs n = asked (refuse 31) (Ok None) (λ (r : Row). Ok (Some (file_entry r))) xs (files_of xs) n
 
-unfoldable pub image_asked : List ℕ → ℕ → ImageAsked
-image_asked xs n = asked (image.Refused 31) image.Nothing (λ (r : Row). image.There (image_entry r)) xs (images_of xs) n
+unfoldable pub image_asked : List ℕ → ℕ → Result (Option ImageEntry) Refusal
+image_asked xs n = asked (refuse 31) (Ok None) (λ (r : Row). Ok (Some (image_entry r))) xs (images_of xs) n
 
-unfoldable pub channel_asked : List ℕ → ℕ → ChannelAsked
-channel_asked xs n = asked (channel.Refused 31) channel.Nothing (λ (r : Row). channel.There (channel_entry r)) xs (channels_of xs) n
+unfoldable pub channel_asked : List ℕ → ℕ → Result (Option ChannelEntry) Refusal
+channel_asked xs n = asked (refuse 31) (Ok None) (λ (r : Row). Ok (Some (channel_entry r))) xs (channels_of xs) n

@@ -1,12 +1,10 @@
 -- "A catalogue of the night" (02, 5/14): what is written for a list of files, in the paper's order and words, and the tests by which it is read.
 -- That they accept exactly what is written is proved (Promises.antt). Assumes nothing.
-use Rattle.std.specs.Prelude.{◌≡◌, Bool, true, false, ◌&&◌, List, [], ◌∷◌, ◌++◌, map, ℕ, zero, suc, ◌+◌, ◌^◌, ◌≤◌, ◌<◌, leb, ltb, eqb, length, get_or, drop, if◌then◌else◌}
+use Rattle.std.specs.Prelude.{◌≡◌, Bool, true, false, ◌&&◌, List, [], ◌∷◌, ◌++◌, map, ℕ, zero, suc, ◌+◌, ◌^◌, ◌≤◌, ◌<◌, leb, ltb, eqb, length, get_or, drop, if◌then◌else◌, Option, Some, None}
 use Rattle.octets.specs.Each.{each}
 use Rattle.facts.specs.declared.Facts.{Facts}
 use Rattle.sections.specs.Sections.{Row, sections, section_of, extent, whole}
 use Rattle.catalogue.specs.declared.Picture.{Picture}
-use Rattle.catalogue.specs.declared.Image.{Image}
-use Rattle.catalogue.specs.declared.Image.TheVariants.{Absent, There}
 use Rattle.catalogue.specs.declared.Entry.{Entry}
 
 -- "Files, in order of completion: channel 1, application 2, file counter 2, L 8, file type 1."
@@ -21,9 +19,9 @@ file_row e = e.facts.channel.0 ∷ e.facts.application.0 ∷ e.facts.counter ∷
 abbrev pub image_widths : List ℕ
 image_widths = 2 ∷ 2 ∷ 2 ∷ 1 ∷ 1 ∷ []
 
-abbrev pub image_row : ℕ → Image → List Row
-image_row i Absent = []
-image_row i (There p) = (i ∷ p.columns ∷ p.lines ∷ p.number ∷ p.total ∷ []) ∷ []
+abbrev pub image_row : ℕ → Option Picture → List Row
+image_row i None = []
+image_row i (Some p) = (i ∷ p.columns ∷ p.lines ∷ p.number ∷ p.total ∷ []) ∷ []
 
 -- of the files from index i on
 unfoldable pub image_rows : ℕ → List Entry → List Row
@@ -63,9 +61,9 @@ unfoldable pub written : List Entry → List ℕ
 written es = sections widths (tables es)
 
 -- an image's numbers have room in their fields
-pub data GoodImage : Image → Type 0 where
-  none : GoodImage Absent
-  some : {p : Picture} → p.columns < 65536 → p.lines < 65536 → p.number < 256 → p.total < 256 → GoodImage (There p)
+pub data GoodImage : Option Picture → Type 0 where
+  none : GoodImage None
+  some : {p : Picture} → p.columns < 65536 → p.lines < 65536 → p.number < 256 → p.total < 256 → GoodImage (Some p)
 
 -- "with channels 0 to 62, applications up to 2015 and L at least 1"; the others have room in their fields
 pub record GoodEntry (e : Entry) : Type 0 where
@@ -140,21 +138,21 @@ accepts xs = whole widths xs && good_tables (files_of xs) (images_of xs) (channe
 abbrev pub picture_of : Row → Picture
 picture_of r = record { columns = get_or r 1 0; lines = get_or r 2 0; number = get_or r 3 0; total = get_or r 4 0 }
 
-abbrev pub image_of : Row → Image
-image_of r = There (picture_of r)
+abbrev pub image_of : Row → Option Picture
+image_of r = Some (picture_of r)
 
 abbrev pub facts_of : Row → Facts
 facts_of f =
     record { channel = record { 0 = get_or f 0 0 }; application = record { 0 = get_or f 1 0 }; counter = get_or f 2 0; bits = get_or f 3 0 }
 
-abbrev pub entry_of : Row → Image → Entry
+abbrev pub entry_of : Row → Option Picture → Entry
 entry_of f i = record { facts = facts_of f; kind = get_or f 4 0; image = i }
 
 unfoldable pub list_of : ℕ → List Row → List Row → List Entry
 list_of i [] is = []
-list_of i (f ∷ fs) [] = entry_of f Absent ∷ list_of (suc i) fs []
+list_of i (f ∷ fs) [] = entry_of f None ∷ list_of (suc i) fs []
 list_of i (f ∷ fs) (r ∷ rs) =
-    if eqb (get_or r 0 0) i then entry_of f (image_of r) ∷ list_of (suc i) fs rs else entry_of f Absent ∷ list_of (suc i) fs (r ∷ rs)
+    if eqb (get_or r 0 0) i then entry_of f (image_of r) ∷ list_of (suc i) fs rs else entry_of f None ∷ list_of (suc i) fs (r ∷ rs)
 
 -- the list that some octets are written for, where they are a catalogue
 unfoldable pub listed : List ℕ → List Entry

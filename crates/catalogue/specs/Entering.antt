@@ -1,28 +1,25 @@
 -- One file more. Assumes nothing.
-use Rattle.std.specs.Prelude.{Bool, not, ◌&&◌, List, [], ◌∷◌, ◌++◌, ℕ, leb, ltb, eqb, length, take}
+use Rattle.records.specs.declared.Segment.{Segment}
+use Rattle.catalogue.specs.declared.Picture.{Picture}
+use Rattle.records.specs.declared.Image.{Image}
+use Rattle.refusals.specs.declared.Refusal.{Refusal}
+use Rattle.refusals.specs.Refusals.{refuse}
+use Rattle.std.specs.Prelude.{Bool, not, ◌&&◌, List, [], ◌∷◌, ◌++◌, ℕ, leb, ltb, eqb, length, take, Option, Some, None, Result, Ok}
 use Rattle.octets.specs.Buffer.{put}
 use Rattle.octets.specs.Reasons.{Reason, decided}
 use Rattle.octets.specs.Reasons.Reason.{◌when◌}
 use Rattle.records.specs.Table.{fixed_types}
 use Rattle.records.specs.Records.{header_of, header_says}
 use Rattle.records.specs.Reader.{primary_of, image_of, segment_of}
-use Rattle.records.specs.declared.ImageStructure.{ImageStructure}
-use Rattle.records.specs.declared.ImageStructure.TheVariants as image
-use Rattle.records.specs.declared.ImageSegment.{ImageSegment}
-use Rattle.records.specs.declared.ImageSegment.TheVariants as segment
 use Rattle.facts.specs.declared.Facts.{Facts}
-use Rattle.catalogue.specs.declared.Image.{Image}
-use Rattle.catalogue.specs.declared.Image.TheVariants.{Absent, There}
 use Rattle.catalogue.specs.declared.Entry.{Entry}
-use Rattle.catalogue.specs.declared.Entered.{Entered}
-use Rattle.catalogue.specs.declared.Entered.TheVariants.{Refused, Now}
 use Rattle.catalogue.specs.Catalogue.{file_row, good_file, accepts, files_of, listed, written}
 
 -- "one for each file with an image structure record"; "segment number 1, total 1 (zeros without a segment record)"
-abbrev pub image_facts : ImageStructure → ImageSegment → Image
-image_facts image.Absent s = Absent
-image_facts (image.There i) segment.Absent = There (record { columns = i.columns; lines = i.lines; number = 0; total = 0 })
-image_facts (image.There i) (segment.There s) = There (record { columns = i.columns; lines = i.lines; number = s.number; total = s.total })
+abbrev pub image_facts : Option Image → Option Segment → Option Picture
+image_facts None s = None
+image_facts (Some i) None = Some (record { columns = i.columns; lines = i.lines; number = 0; total = 0 })
+image_facts (Some i) (Some s) = Some (record { columns = i.columns; lines = i.lines; number = s.number; total = s.total })
 
 -- the entry of a file: its facts as handed in, and what its header says
 unfoldable pub entry_for : Facts → List ℕ → Entry
@@ -56,15 +53,15 @@ enter_says b used f file = header_says fixed_types file ++ entry_says b used (en
 
 -- everything that comes out of a call that writes: its answer, and what is in the buffer
 pub record Outcome : Type 0 where
-  pub answer : Entered
+  pub answer : Result ℕ Refusal
   pub buffer : List ℕ
 
-abbrev pub gives : Entered → List ℕ → Outcome
+abbrev pub gives : Result ℕ Refusal → List ℕ → Outcome
 gives a b = record { answer = a; buffer = b }
 
 -- octets written at the front of a buffer, and what is behind them as it was; or a refusal, and the buffer "stays unchanged"
 abbrev pub written_in : List Reason → List ℕ → List ℕ → Outcome
-written_in reasons b xs = decided reasons (gives (Now (length xs)) (put b 0 xs)) (λ (n : ℕ). gives (Refused n) b)
+written_in reasons b xs = decided reasons (gives (Ok (length xs)) (put b 0 xs)) (λ (n : ℕ). gives (refuse n) b)
 
 unfoldable pub entry_entered : List ℕ → ℕ → Entry → Outcome
 entry_entered b used e = written_in (entry_says b used e) b (entered (take used b) e)

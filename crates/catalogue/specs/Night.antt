@@ -1,10 +1,9 @@
 -- A night: files entered one after the other, refused ones among them. Assumes nothing.
-use Rattle.std.specs.Prelude.{List, [], ◌∷◌, ◌++◌, ℕ, ◌^◌, ◌<◌}
+use Rattle.refusals.specs.declared.Refusal.{Refusal}
+use Rattle.std.specs.Prelude.{List, [], ◌∷◌, ◌++◌, ℕ, ◌^◌, ◌<◌, Result, Ok, Err}
 use Rattle.octets.specs.Number.{Octets}
 use Rattle.facts.specs.declared.Facts.{Facts}
 use Rattle.catalogue.specs.declared.Entry.{Entry}
-use Rattle.catalogue.specs.declared.Entered.{Entered}
-use Rattle.catalogue.specs.declared.Entered.TheVariants.{Refused, Now}
 use Rattle.catalogue.specs.Entering.{Outcome, entry_for, file_entered, begun}
 
 -- what a caller keeps: the buffer, and how many of its octets are the catalogue
@@ -18,9 +17,9 @@ pub record Handed : Type 0 where
   pub file : List ℕ
 
 -- after a call: the number that it gave, or the one that there was
-abbrev pub kept_by : ℕ → List ℕ → Entered → Kept
-kept_by used b (Refused n) = record { buffer = b; used = used }
-kept_by used b (Now n) = record { buffer = b; used = n }
+abbrev pub kept_by : ℕ → List ℕ → Result ℕ Refusal → Kept
+kept_by used b (Err n) = record { buffer = b; used = used }
+kept_by used b (Ok n) = record { buffer = b; used = n }
 
 abbrev pub outcome : Kept → Handed → Outcome
 outcome k h = file_entered k.buffer k.used h.facts h.file
@@ -34,9 +33,9 @@ night k [] = k
 night k (h ∷ hs) = night (after k h) hs
 
 -- the files that were entered: those whose call was answered by 0
-abbrev pub entered_by : Entered → Entry → List Entry
-entered_by (Refused n) e = []
-entered_by (Now n) e = e ∷ []
+abbrev pub entered_by : Result ℕ Refusal → Entry → List Entry
+entered_by (Err n) e = []
+entered_by (Ok n) e = e ∷ []
 
 unfoldable pub all_entered : Kept → List Handed → List Entry
 all_entered k [] = []

@@ -1,21 +1,16 @@
 -- What is promised of catalogues, one sentence after the other, as one statement. That it holds is proved (proofs/Promised.antt). The calls are the
 -- definitions that their contracts cite (Asking.antt, Entering.antt). Assumes nothing.
-use Rattle.std.specs.Prelude.{◌≡◌, true, ◌↔◌, ℕ, ◌≤◌, ◌<◌, length, get_or, take, drop, replicate}
+use Rattle.refusals.specs.Refusals.{refuse}
+use Rattle.std.specs.Prelude.{◌≡◌, true, ◌↔◌, ℕ, ◌≤◌, ◌<◌, length, get_or, take, drop, replicate, Some, None, Ok}
 use mathlib.Core.List.{List, [], ◌∷◌, ◌++◌, map, Memᴰ}
 use Rattle.octets.specs.Number.{Octets}
 use Rattle.octets.specs.Buffer.{put}
 use Rattle.octets.specs.Reasons.{decided}
 use Rattle.records.specs.Reader.{read_header}
 use Rattle.records.specs.declared.Header.{Header}
-use Rattle.records.specs.declared.HeaderRead.TheVariants as header
 use Rattle.facts.specs.declared.Facts.{Facts}
 use Rattle.sections.specs.Sections.{Row}
 use Rattle.catalogue.specs.declared.Entry.{Entry}
-use Rattle.catalogue.specs.declared.Entered.TheVariants.{Refused, Now}
-use Rattle.catalogue.specs.declared.CatalogueRead.TheVariants as read
-use Rattle.catalogue.specs.declared.FileAsked.TheVariants as file
-use Rattle.catalogue.specs.declared.ImageAsked.TheVariants as image
-use Rattle.catalogue.specs.declared.ChannelAsked.TheVariants as channel
 use Rattle.catalogue.specs.Catalogue.{file_row, image_rows, channel_of, counted_channels, how_many, files_of, images_of, channels_of, written, Good, Catalogue, accepts, listed}
 use Rattle.catalogue.specs.Asking.{catalogue_read, file_entry, image_entry, channel_entry, file_asked, image_asked, channel_asked}
 use Rattle.catalogue.specs.Entering.{entry_for, entered, enter_says, gives, file_entered, begun}
@@ -45,14 +40,14 @@ pub record Tells (xs : List ℕ) : Type 0 where
 -- what is asked of the catalogue of a list
 pub record Asked (es : List Entry) : Type 0 where
   pub sizes : catalogue_read (written es)
-      ≡ read.Read (record { files = length es; images = length (image_rows 0 es); channels = length (counted_channels (map file_row es)) })
-  pub a-file : (n : ℕ) → n < length es → file_asked (written es) n ≡ file.There (file_entry (get_or (map file_row es) n []))
-  pub no-file : (n : ℕ) → length es ≤ n → file_asked (written es) n ≡ file.Nothing
-  pub an-image : (n : ℕ) → n < length (image_rows 0 es) → image_asked (written es) n ≡ image.There (image_entry (get_or (image_rows 0 es) n []))
-  pub no-image : (n : ℕ) → length (image_rows 0 es) ≤ n → image_asked (written es) n ≡ image.Nothing
+      ≡ Ok (record { files = length es; images = length (image_rows 0 es); channels = length (counted_channels (map file_row es)) })
+  pub a-file : (n : ℕ) → n < length es → file_asked (written es) n ≡ Ok (Some (file_entry (get_or (map file_row es) n [])))
+  pub no-file : (n : ℕ) → length es ≤ n → file_asked (written es) n ≡ Ok None
+  pub an-image : (n : ℕ) → n < length (image_rows 0 es) → image_asked (written es) n ≡ Ok (Some (image_entry (get_or (image_rows 0 es) n [])))
+  pub no-image : (n : ℕ) → length (image_rows 0 es) ≤ n → image_asked (written es) n ≡ Ok None
   pub a-channel : (n : ℕ) → n < length (counted_channels (map file_row es))
-      → channel_asked (written es) n ≡ channel.There (channel_entry (get_or (counted_channels (map file_row es)) n []))
-  pub no-channel : (n : ℕ) → length (counted_channels (map file_row es)) ≤ n → channel_asked (written es) n ≡ channel.Nothing
+      → channel_asked (written es) n ≡ Ok (Some (channel_entry (get_or (counted_channels (map file_row es)) n [])))
+  pub no-channel : (n : ℕ) → length (counted_channels (map file_row es)) ≤ n → channel_asked (written es) n ≡ Ok None
 
 -- what the answers say of an accepted catalogue, in the paper's numbers: 0, and the numbers of the entry as it is stored
 pub record Says (xs : List ℕ) : Type 0 where
@@ -63,10 +58,10 @@ pub record Says (xs : List ℕ) : Type 0 where
 
 -- "otherwise refusal 31"
 pub record Refused31 (xs : List ℕ) : Type 0 where
-  pub sizes : catalogue_read xs ≡ read.Refused 31
-  pub a-file : (n : ℕ) → file_asked xs n ≡ file.Refused 31
-  pub an-image : (n : ℕ) → image_asked xs n ≡ image.Refused 31
-  pub a-channel : (n : ℕ) → channel_asked xs n ≡ channel.Refused 31
+  pub sizes : catalogue_read xs ≡ refuse 31
+  pub a-file : (n : ℕ) → file_asked xs n ≡ refuse 31
+  pub an-image : (n : ℕ) → image_asked xs n ≡ refuse 31
+  pub a-channel : (n : ℕ) → channel_asked xs n ≡ refuse 31
 
 -- facts that a catalogue can have
 abbrev pub GoodFacts : Facts → Type 0
@@ -75,29 +70,29 @@ GoodFacts f = (f.channel.0 ≤ 62) × (f.application.0 ≤ 2015) × (1 ≤ f.bit
 -- entering a file whose header is read, in the catalogue of es at the front of a buffer
 pub record Enters (b : List ℕ) (used : ℕ) (f : Facts) (file : List ℕ) (es : List Entry) : Type 0 where
   -- "At most 1,024 files, then refusal 30"
-  pub full : length es ≡ 1024 → file_entered b used f file ≡ gives (Refused 30) b
-  pub bad-facts : length es < 1024 → (GoodFacts f → ⊥) → file_entered b used f file ≡ gives (Refused 31) b
+  pub full : length es ≡ 1024 → file_entered b used f file ≡ gives (refuse 30) b
+  pub bad-facts : length es < 1024 → (GoodFacts f → ⊥) → file_entered b used f file ≡ gives (refuse 31) b
   -- "a lent buffer too short for it gives 34 and stays unchanged"
   pub short : length es < 1024 → GoodFacts f → length b < length (written (es ++ (entry_for f file ∷ [])))
-      → file_entered b used f file ≡ gives (Refused 34) b
+      → file_entered b used f file ≡ gives (refuse 34) b
   -- else the catalogue of es with one entry more at its end
   pub done : length es < 1024 → GoodFacts f → length (written (es ++ (entry_for f file ∷ []))) ≤ length b
       → file_entered b used f file
-      ≡ gives (Now (length (written (es ++ (entry_for f file ∷ []))))) (put b 0 (written (es ++ (entry_for f file ∷ []))))
+      ≡ gives (Ok (length (written (es ++ (entry_for f file ∷ []))))) (put b 0 (written (es ++ (entry_for f file ∷ []))))
 
 -- every call that enters, whatever it is handed
 pub record Entering (b : List ℕ) (used : ℕ) (f : Facts) (file : List ℕ) : Type 0 where
   -- "A file whose header is refused is not entered and its number is returned."
-  pub refused : (n : ℕ) → (read_header file).read ≡ header.Refused n → file_entered b used f file ≡ gives (Refused n) b
-  pub none : (h : Header) → (read_header file).read ≡ header.Read h → ((used ≤ length b) × Catalogue (take used b) → ⊥)
-      → file_entered b used f file ≡ gives (Refused 31) b
-  pub some : (h : Header) → (read_header file).read ≡ header.Read h → used ≤ length b → (es : List Entry) → Good es → take used b ≡ written es
+  pub refused : (n : ℕ) → read_header file ≡ refuse n → file_entered b used f file ≡ gives (refuse n) b
+  pub none : (h : Header) → read_header file ≡ Ok h → ((used ≤ length b) × Catalogue (take used b) → ⊥)
+      → file_entered b used f file ≡ gives (refuse 31) b
+  pub some : (h : Header) → read_header file ≡ Ok h → used ≤ length b → (es : List Entry) → Good es → take used b ≡ written es
       → Enters b used f file es
 
 -- an empty catalogue
 pub record Begins (b : List ℕ) : Type 0 where
-  pub short : length b < 6 → begun b ≡ gives (Refused 34) b
-  pub done : 6 ≤ length b → begun b ≡ gives (Now 6) (put b 0 (replicate 6 0))
+  pub short : length b < 6 → begun b ≡ gives (refuse 34) b
+  pub done : 6 ≤ length b → begun b ≡ gives (Ok 6) (put b 0 (replicate 6 0))
 
 -- what is kept at the end of a night that began with an empty catalogue
 pub record Night (b : List ℕ) (hs : List Handed) : Type 0 where
@@ -124,9 +119,9 @@ pub record Promises : Type 0 where
       ≡ decided (enter_says b used f file) (0 ∷ length (entered (take used b) (entry_for f file)) ∷ []) (λ (n : ℕ). n ∷ [])
   -- a buffer of 22,723 octets is never too short
   pub longest : (es : List Entry) → length es ≤ 1024 → length (written es) ≤ 22723
-  pub never-34 : (b : List ℕ) → Octets b → 22723 ≤ length b → (used : ℕ) (f : Facts) (file : List ℕ) → (file_entered b used f file).answer ≡ Refused 34 → ⊥
+  pub never-34 : (b : List ℕ) → Octets b → 22723 ≤ length b → (used : ℕ) (f : Facts) (file : List ℕ) → (file_entered b used f file).answer ≡ refuse 34 → ⊥
   -- the octets behind the catalogue stay
-  pub behind : (b : List ℕ) (used : ℕ) (f : Facts) (file : List ℕ) (n : ℕ) → (file_entered b used f file).answer ≡ Now n
+  pub behind : (b : List ℕ) (used : ℕ) (f : Facts) (file : List ℕ) (n : ℕ) → (file_entered b used f file).answer ≡ Ok n
       → drop n (file_entered b used f file).buffer ≡ drop n b
   -- "in order of completion": after any calls, refused ones too, the catalogue of the files entered, in order of entering
   pub nights : (b : List ℕ) → 6 ≤ length b → (hs : List Handed) → AllTyped hs → Night b hs

@@ -1,9 +1,7 @@
 -- How the sections are got at: their places, and the counts of the channels in one pass. Means, all of it. Assumes nothing.
-use Rattle.std.specs.Prelude.{◌≡◌, true, List, [], ◌∷◌, ◌++◌, map, ℕ, ◌+◌, ◌*◌, ◌≤◌, ◌<◌, length, get_or, set, take, replicate, if◌then◌else◌}
+use Rattle.std.specs.Prelude.{◌≡◌, true, List, [], ◌∷◌, ◌++◌, map, ℕ, ◌+◌, ◌*◌, ◌≤◌, ◌<◌, length, get_or, set, take, replicate, if◌then◌else◌, Option, Some, None}
 use Rattle.octets.specs.Number.{number_at}
 use Rattle.catalogue.specs.declared.Places.{Places}
-use Rattle.catalogue.specs.declared.Found.{Found}
-use Rattle.catalogue.specs.declared.Found.TheVariants.{At, Nowhere}
 use Rattle.catalogue.specs.declared.Entry.{Entry}
 use Rattle.catalogue.specs.Catalogue.{file_row, channel_of, good_file, accepts, files_of}
 
@@ -30,8 +28,8 @@ places_of xs =
     }
 
 -- what is found in octets that are lent
-unfoldable pub found_in : List ℕ → Found
-found_in xs = if accepts xs then At (places_of xs) else Nowhere
+unfoldable pub found_in : List ℕ → Option Places
+found_in xs = if accepts xs then Some (places_of xs) else None
 
 -- the places of the sections of some octets that are three sections
 pub record Lies (xs : List ℕ) (r : Places) : Type 0 where

@@ -24,18 +24,12 @@ pub struct Picture {
     pub total: u8,
 }
 
-#[derive(Clone, Copy)]
-pub enum Image {
-    Absent,
-    There(Picture),
-}
-
 // A file of the list: what is known of it, the file type, and what its header says of its image.
 #[derive(Clone, Copy)]
 pub struct Entry {
     pub facts: Facts,
     pub kind: u8,
-    pub image: Image,
+    pub image: Option<Picture>,
 }
 
 impl Entry {
@@ -51,13 +45,6 @@ impl Entry {
     pub const CHANNELS: usize = 63;
 }
 
-// What comes of a call that writes: a number of the paper, or the octets that the catalogue now has.
-#[derive(Clone, Copy)]
-pub enum Entered {
-    Refused(u8),
-    Now(usize),
-}
-
 // How many entries each section has.
 #[derive(Clone, Copy)]
 pub struct Sizes {
@@ -66,24 +53,11 @@ pub struct Sizes {
     pub channels: usize,
 }
 
-#[derive(Clone, Copy)]
-pub enum CatalogueRead {
-    Refused(u8),
-    Read(Sizes),
-}
-
-// An entry of each section, and what comes of asking for one.
+// An entry of each section.
 #[derive(Clone, Copy)]
 pub struct FileEntry {
     pub facts: Facts,
     pub kind: u8,
-}
-
-#[derive(Clone, Copy)]
-pub enum FileAsked {
-    Refused(u8),
-    Nothing,
-    There(FileEntry),
 }
 
 #[derive(Clone, Copy)]
@@ -93,23 +67,9 @@ pub struct ImageEntry {
 }
 
 #[derive(Clone, Copy)]
-pub enum ImageAsked {
-    Refused(u8),
-    Nothing,
-    There(ImageEntry),
-}
-
-#[derive(Clone, Copy)]
 pub struct ChannelEntry {
     pub channel: Channel,
     pub files: u16,
-}
-
-#[derive(Clone, Copy)]
-pub enum ChannelAsked {
-    Refused(u8),
-    Nothing,
-    There(ChannelEntry),
 }
 
 // Where the sections of a catalogue lie, and how many entries each has.
@@ -122,20 +82,13 @@ pub struct Places {
     pub channels: usize,
 }
 
-#[derive(Clone, Copy)]
-pub enum Found {
-    At(Places),
-    Nowhere,
-}
-
 // Whether all of n files from place at on have a channel up to 62, an application up to 2015 and L at least 1.
 fn good_files(s: &[u8], at: usize, n: usize) -> bool
     requires { at + n * 14 ≤ length s.now }
     ensures { result ≡ each good_file (entries file_widths n (drop at s.now)) }
 {
-    let mut i: usize = 0;
-    let mut p = at;
-    while i < n {
+    for i in 0..n {
+        let p = at + i * Entry::FILE;
         if s[p] > Channel::LAST {
             return false;
         }
@@ -145,8 +98,6 @@ fn good_files(s: &[u8], at: usize, n: usize) -> bool
         if octets::u64_at(s, p + 5) == 0 {
             return false;
         }
-        i += 1;
-        p += Entry::FILE;
     }
     true
 }
@@ -156,11 +107,9 @@ fn rising_images(s: &[u8], at: usize, m: usize, n: usize) -> bool
     requires { at + m * 8 ≤ length s.now }
     ensures { result ≡ rising 0 n (entries image_widths m (drop at s.now)) }
 {
-    let mut i: usize = 0;
-    let mut p = at;
     let mut least: usize = 0;
-    while i < m {
-        let index = octets::u16_at(s, p) as usize;
+    for i in 0..m {
+        let index = octets::u16_at(s, at + i * Entry::IMAGE) as usize;
         if index < least {
             return false;
         }
@@ -168,8 +117,6 @@ fn rising_images(s: &[u8], at: usize, m: usize, n: usize) -> bool
             return false;
         }
         least = index + 1;
-        i += 1;
-        p += Entry::IMAGE;
     }
     true
 }
@@ -180,13 +127,9 @@ pub fn tally(s: &[u8], at: usize, n: usize) -> [u16; Entry::CHANNELS]
     ensures { result ≡ tallied (replicate 63 0) (map channel_of (entries file_widths n (drop at s.now))) }
 {
     let mut counts = [0u16; Entry::CHANNELS];
-    let mut i: usize = 0;
-    let mut p = at;
-    while i < n {
-        let c = s[p] as usize;
-        counts[c] = counts[c] + 1;
-        i += 1;
-        p += Entry::FILE;
+    for i in 0..n {
+        let c = s[at + i * Entry::FILE] as usize;
+        counts[c] += 1;
     }
     counts
 }
@@ -196,26 +139,22 @@ fn true_channels(s: &[u8], at: usize, k: usize, counts: [u16; Entry::CHANNELS]) 
     requires { at + k * 3 ≤ length s.now }
     ensures { result ≡ same_rows (entries channel_widths k (drop at s.now)) (channel_rows (λ (c : ℕ). get_or counts c 0) 63 0) }
 {
-    let mut c: usize = 0;
     let mut j: usize = 0;
-    let mut p = at;
-    while c < Entry::CHANNELS {
+    for c in 0..Entry::CHANNELS {
         if counts[c] == 0 {
-            c += 1;
-        } else {
-            if j == k {
-                return false;
-            }
-            if s[p] as usize != c {
-                return false;
-            }
-            if octets::u16_at(s, p + 1) != counts[c] {
-                return false;
-            }
-            c += 1;
-            j += 1;
-            p += Entry::CHANNEL;
+            continue;
         }
+        if j == k {
+            return false;
+        }
+        let p = at + j * Entry::CHANNEL;
+        if s[p] as usize != c {
+            return false;
+        }
+        if octets::u16_at(s, p + 1) != counts[c] {
+            return false;
+        }
+        j += 1;
     }
     j == k
 }
@@ -231,11 +170,11 @@ fn find_places(s: &[u8]) -> Places
     let third = second + (2 + images * Entry::IMAGE);
     let channels = octets::u16_at(s, third) as usize;
     Places {
-        files: files,
-        second: second,
-        images: images,
-        third: third,
-        channels: channels,
+        files,
+        second,
+        images,
+        third,
+        channels,
     }
 }
 
@@ -258,16 +197,16 @@ fn good_sections(s: &[u8], at: Places) -> bool
 }
 
 // Where the sections of a catalogue lie, or that some octets are none.
-pub fn find(s: &[u8]) -> Found
+pub fn find(s: &[u8]) -> Option<Places>
     ensures { result ≡ found_in s.now }
 {
     let sizes = [14u8, 8, 3];
     if !sections::is_sections(s, 0, &sizes) {
-        return Found::Nowhere;
+        return None;
     }
     let at = find_places(s);
     if !good_sections(s, at) {
-        return Found::Nowhere;
+        return None;
     }
-    Found::At(at)
+    Some(at)
 }

@@ -13,14 +13,7 @@ pub fn among(channels: &[u8], from: usize, c: u8) -> bool
     requires { from ≤ length channels.now }
     ensures { result ≡ among_of c (drop from channels.now) }
 {
-    let mut i = from;
-    while i < channels.len() {
-        if channels[i] == c {
-            return true;
-        }
-        i += 1;
-    }
-    false
+    channels[from..].contains(&c)
 }
 
 // 1 to 8 distinct channels 0 to 62.
@@ -33,16 +26,13 @@ pub fn good_channels(channels: &[u8]) -> bool
     if channels.len() > Channel::MOST {
         return false;
     }
-    let mut i: usize = 0;
-    while i < channels.len() {
-        let c = channels[i];
-        if c > Channel::LAST {
+    for (i, c) in channels.iter().enumerate() {
+        if *c > Channel::LAST {
             return false;
         }
-        if among(channels, i + 1, c) {
+        if among(channels, i + 1, *c) {
             return false;
         }
-        i += 1;
     }
     true
 }

@@ -3,12 +3,9 @@ use Rattle.std.specs.Prelude.{not, List, ◌++◌, ℕ, ◌%◌, ◌^◌, eqb, t
 use Rattle.stream.specs.declared.Hunter.{Hunter}
 use Rattle.stream.specs.Hunter.{HuntOutcome, begun_by, hunted}
 use Rattle.script.specs.declared.Command.{Command}
+use Rattle.chase.specs.declared.Memory.{Memory}
 
 -- "It owns a hunter .. and a buffer of 2,048 octets"
-pub record Memory : Type 0 where
-  pub hunter : Hunter
-  pub buffer : List ℕ
-
 abbrev pub memory : Hunter → List ℕ → Memory
 memory h buffer = record { hunter = h; buffer = buffer }
 

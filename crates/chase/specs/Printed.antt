@@ -7,7 +7,8 @@ use Rattle.lines.specs.Lines.{answer_line}
 use Rattle.stream.specs.declared.Hunter.{Hunter}
 use Rattle.stream.specs.Hunter.{begun_by}
 use Rattle.script.specs.declared.Command.{Command}
-use Rattle.chase.specs.Calls.{Memory, hunt_by, went_hunting}
+use Rattle.chase.specs.declared.Memory.{Memory}
+use Rattle.chase.specs.Calls.{hunt_by, went_hunting}
 
 -- "1, else 0"
 abbrev pub as_number : Bool → ℕ

@@ -3,12 +3,9 @@ use Rattle.std.specs.Prelude.{List, ℕ, replicate}
 use Rattle.lines.specs.Lines.{end_line}
 use Rattle.script.specs.Follow.{Followed, followed}
 use Rattle.stream.specs.Hunter.{no_hunter}
-use Rattle.chase.specs.declared.Ended.{Ended}
+use Rattle.chase.specs.declared.Memory.{Memory}
 use Rattle.chase.specs.Script.{payload_of}
-use Rattle.chase.specs.Calls.{Memory, memory, carried_out}
-
-abbrev pub ended : Ended → List ℕ → Followed Memory
-ended r buffer = record { memory = memory r.hunter buffer; commands = r.commands; unused = r.unused }
+use Rattle.chase.specs.Calls.{memory, carried_out}
 
 -- what a script leaves of what is owned, and its two numbers
 abbrev pub chased : Memory → List ℕ → Followed Memory

@@ -1,14 +1,13 @@
 // B, N, Q and H: the two calls of the hunter and their lines, a field of it set, and the hunter shown.
-ghost use Rattle.std.specs.Prelude.{◌≡◌, ◌≤◌, length};
+ghost use Rattle.std.specs.Prelude.{◌≡◌, ◌≤◌, Some, length};
 ghost use Rattle.text.specs.Pieces.{Written};
 ghost use Rattle.lines.specs.Lines.{answer_line};
 ghost use Rattle.stream.specs.Hunter.{begun_by};
-ghost use Rattle.script.specs.declared.Payload.TheVariants.{Octets};
 ghost use Rattle.chase.specs.Script.{payload_of};
 ghost use Rattle.chase.specs.Calls.{memory, went_hunting, poked, carried_out};
-ghost use Rattle.chase.specs.Printed.{as_number, check_line, hunt_line, hunter_line, printed};
+ghost use Rattle.chase.specs.Printed.{check_line, hunt_line, hunter_line, printed};
 
-use script::{Command, Payload};
+use script::Command;
 use stream::Hunter;
 
 // What a command leaves: the hunter, and where its text ends.
@@ -19,68 +18,31 @@ pub struct After {
 }
 
 // How many octets follow a command, if the run goes on with it.
-pub fn payload(x: Command) -> Payload
+#[tactic(auto, unfolding(crate::specs::Script::payload_of))]
+pub fn payload(x: Command) -> Option<usize>
     ensures { result ≡ payload_of x }
 {
-    let letter = x.letter;
-    if letter == b'N' {
-        if x.b > 2048 {
-            return Payload::Refused;
-        }
-        if x.c <= 8192 {
-            return Payload::Octets(x.c as usize);
-        }
-        return Payload::Refused;
+    match x.letter {
+        b'B' | b'Q' | b'H' => Some(0),
+        b'N' if x.b <= 2048 && x.c <= 8192 => Some(x.c as usize),
+        _ => None,
     }
-    if letter == b'B' {
-        return Payload::Octets(0);
-    }
-    if letter == b'Q' {
-        return Payload::Octets(0);
-    }
-    if letter == b'H' {
-        return Payload::Octets(0);
-    }
-    Payload::Refused
 }
 
 // A field of the hunter set.
+#[tactic(auto, unfolding(crate::specs::Calls::poked))]
 fn poke(h: Hunter, x: Command) -> Hunter
     ensures { result ≡ poked x h }
 {
     let mut g = h;
-    let a = x.a;
-    let d = x.d;
-    if a == 0 {
-        g.begun = d != 0;
-        return g;
-    }
-    if a == 1 {
-        g.k = (d % 256) as u8;
-        return g;
-    }
-    if a == 2 {
-        g.waiting = (d % 65536) as u16;
-        return g;
-    }
-    if a == 3 {
-        let i = x.b as usize;
-        if i < 1024 {
-            g.octets[i] = (d % 256) as u8;
-        }
-        return g;
+    match x.a {
+        0 => g.begun = x.d != 0,
+        1 => g.k = (x.d % 256) as u8,
+        2 => g.waiting = (x.d % 65536) as u16,
+        3 if x.b < 1024 => g.octets[x.b as usize] = (x.d % 256) as u8,
+        _ => {}
     }
     g
-}
-
-// 1 for yes, and 0.
-fn as_number(yes: bool) -> u64
-    ensures { result ≡ as_number yes }
-{
-    if yes {
-        return 1;
-    }
-    0
 }
 
 // A letter, three numbers, and the check of some octets.
@@ -88,8 +50,7 @@ fn check_line(letter: u8, a: u64, b: u64, c: u64, checked: &[u8], out: &mut [u8]
     requires { length out.old ≡ 86 }
     ensures { (result ≤ 86) × Written out.old 0 (check_line letter a b c checked.now) out.new result }
 {
-    let word = [letter];
-    let third = text::with_three(&word, a, b, c, out, 0);
+    let third = text::with_three(&[letter], a, b, c, out, 0);
     let last = text::number(crc::crc(checked) as u64, out, third);
     text::line_end(out, last)
 }
@@ -101,11 +62,10 @@ fn begin(x: Command, out: &mut [u8]) -> After
     ensures end_bound { (result.end ≤ 86) × Written out.old 0 (answer_line 0x42 (begun_by x.a).answer) out.new result.end }
 {
     let b = stream::begin(x.a);
-    let given = b.hunter;
     let end = lines::answer_line(b'B', b.answer, out, 0);
     After {
-        hunter: given,
-        end: end,
+        hunter: b.hunter,
+        end,
     }
 }
 
@@ -116,13 +76,12 @@ fn hunt(h: Hunter, x: Command, portion: &[u8], buffer: &mut [u8], out: &mut [u8]
     ensures end_bound { (result.end ≤ 86) × Written out.old 0 (hunt_line x portion.now (memory h buffer.old)) out.new result.end }
 {
     let lent = x.b as usize;
-    let r = hunter::hunt(h, portion, &mut buffer[0..lent]);
-    let after = r.hunter;
-    let found = as_number(r.found);
+    let r = hunter::hunt(h, portion, &mut buffer[..lent]);
+    let found = u64::from(r.found);
     let end = check_line(b'N', r.answer as u64, r.taken as u64, found, buffer, out);
     After {
-        hunter: after,
-        end: end,
+        hunter: r.hunter,
+        end,
     }
 }
 
@@ -132,32 +91,25 @@ fn show(h: Hunter, out: &mut [u8]) -> After
     ensures hunter_value { result.hunter ≡ h }
     ensures end_bound { (result.end ≤ 86) × Written out.old 0 (hunter_line h) out.new result.end }
 {
-    let g = h;
-    let octets = g.octets;
-    let begun = as_number(g.begun);
-    let end = check_line(b'H', begun, g.k as u64, g.waiting as u64, &octets, out);
-    After {
-        hunter: g,
-        end: end,
-    }
+    let begun = u64::from(h.begun);
+    let end = check_line(b'H', begun, h.k as u64, h.waiting as u64, &h.octets, out);
+    After { hunter: h, end }
 }
 
 // One command. Its text stands at the start of out.
+#[tactic(auto, unfolding(crate::specs::Script::payload_of, crate::specs::Calls::carried_out, crate::specs::Calls::was_begun, crate::specs::Printed::printed))]
 pub fn carry_out(h: Hunter, x: Command, portion: &[u8], buffer: &mut [u8], out: &mut [u8]) -> After
-    requires { (length buffer.old ≡ 2048) × (length out.old ≡ 86) × (payload_of x ≡ Octets (length portion.now)) }
+    requires { (length buffer.old ≡ 2048) × (length out.old ≡ 86) × (payload_of x ≡ Some (length portion.now)) }
     ensures buffer_after { memory result.hunter buffer.new ≡ carried_out x portion.now (memory h buffer.old) }
     ensures end_bound { (result.end ≤ 86) × Written out.old 0 (printed x portion.now (memory h buffer.old)) out.new result.end }
 {
-    let letter = x.letter;
-    if letter == b'B' {
-        return begin(x, out);
+    match x.letter {
+        b'B' => begin(x, out),
+        b'N' => hunt(h, x, portion, buffer, out),
+        b'H' => show(h, out),
+        _ => After {
+            hunter: poke(h, x),
+            end: 0,
+        },
     }
-    if letter == b'N' {
-        return hunt(h, x, portion, buffer, out);
-    }
-    if letter == b'H' {
-        return show(h, out);
-    }
-    let g = poke(h, x);
-    After { hunter: g, end: 0 }
 }

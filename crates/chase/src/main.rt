@@ -7,15 +7,14 @@
 
 mod calls;
 
-ghost use Rattle.std.specs.Prelude.{◌≡◌, ◌≤◌, length, take, drop};
-ghost use Rattle.stream.specs.Hunter.{no_hunter};
-ghost use Rattle.script.specs.declared.Payload.TheVariants.{Octets};
-ghost use Rattle.script.specs.Follow.{next_of};
+ghost use Rattle.std.specs.Prelude.{◌≡◌, ◌≤◌, length, take};
+ghost use Rattle.script.specs.Follow.{ended};
 ghost use Rattle.chase.specs.Script.{payload_of};
-ghost use Rattle.chase.specs.Calls.{memory, carried_out};
-ghost use Rattle.chase.specs.Run.{ended, chased, last_line};
+ghost use Rattle.chase.specs.Calls.{carried_out};
+ghost use Rattle.chase.specs.Printed.{printed};
+ghost use Rattle.chase.specs.Run.{chased, last_line};
 
-use script::{Command, Next};
+use script::{Command, Ended, Obeys};
 use std::io::{Stdin, Stdout};
 use stream::Hunter;
 
@@ -26,86 +25,39 @@ const BUFFER: usize = 2048;
 
 const TEXT: usize = 86;
 
-// What comes at place at.
-fn fetch(script: &[u8], at: usize) -> Next
-    requires { at ≤ length script.now }
-    ensures { result ≡ next_of payload_of (drop at script.now) }
-{
-    let left = script.len() - at;
-    if left < Command::SIZE {
-        return Next::Ends;
-    }
-    let end = at + Command::SIZE;
-    let x = Command::read(&script[at..end]);
-    let p = calls::payload(x);
-    Next::by(left, x, p)
-}
-
-// One command carried out, and its text printed.
-fn obey(
-    mut output: Stdout,
-    h: Hunter,
-    x: Command,
-    portion: &[u8],
-    buffer: &mut [u8],
-    out: &mut [u8],
-) -> Hunter
-    requires { (length buffer.old ≡ 2048) × (length out.old ≡ 86) × (payload_of x ≡ Octets (length portion.now)) }
-    ensures { memory result buffer.new ≡ carried_out x portion.now (memory h buffer.old) }
-{
-    let a = calls::carry_out(h, x, portion, buffer, out);
-    let last = a.end;
-    pipes::write_all(&mut output, &out[0..last]);
-    let after = a.hunter;
-    after
-}
-
-// What a run leaves: the hunter, how many commands were carried out, and how many octets of the script were not used.
-#[derive(Clone, Copy)]
-pub struct Ended {
+// What the program owns.
+#[derive(Drop)]
+pub struct Memory {
     pub hunter: Hunter,
-    pub commands: u64,
-    pub unused: u64,
+    pub buffer: [u8; BUFFER],
+}
+
+impl Obeys for Memory {
+    ghost payload_of = { payload_of };
+
+    ghost carried_out = { carried_out };
+
+    ghost printed = { printed };
+
+    ghost room = { 86 };
+
+    fn payload(x: Command) -> Option<usize> {
+        calls::payload(x)
+    }
+
+    fn carry_out(&mut self, x: Command, payload: &[u8], out: &mut [u8]) -> usize {
+        let a = calls::carry_out(self.hunter, x, payload, &mut self.buffer, out);
+        self.hunter = a.hunter;
+        a.end
+    }
 }
 
 // The script, command by command.
-fn follow(output: Stdout, script: &[u8], buffer: &mut [u8], out: &mut [u8]) -> Ended
-    requires { (length buffer.old ≡ 2048) × (length out.old ≡ 86) }
-    ensures { ended result buffer.new ≡ chased (memory no_hunter buffer.old) script.now }
+fn follow(mut output: Stdout, script: &[u8], owned: &mut Memory, out: &mut [u8]) -> Ended
+    requires { length out.old ≡ 86 }
+    ensures { ended owned.new result ≡ chased owned.old script.now }
 {
-    let mut h = Hunter {
-        begun: false,
-        k: 0,
-        waiting: 0,
-        octets: [0; 1024],
-    };
-    let mut n: u64 = 0;
-    let mut at: usize = 0;
-    while at < script.len() {
-        let next = fetch(script, at);
-        match next {
-            Next::Ends => {
-                let unused = (script.len() - at) as u64;
-                return Ended {
-                    hunter: h,
-                    commands: n,
-                    unused: unused,
-                };
-            }
-            Next::Goes(x, k) => {
-                let from = at + Command::SIZE;
-                let to = from + k;
-                h = obey(output, h, x, &script[from..to], buffer, out);
-                at = to;
-            }
-        }
-        n += 1;
-    }
-    Ended {
-        hunter: h,
-        commands: n,
-        unused: 0,
-    }
+    script::follow(owned, &mut output, script, out)
 }
 
 // A whole script, from a hunter and a buffer that are all zero. Its last line stands at the start of out, up to the place answered.
@@ -113,9 +65,17 @@ fn run(output: Stdout, script: &[u8], out: &mut [u8]) -> usize
     requires { length out.old ≡ 86 }
     ensures { (result ≤ 86) × (take result out.new ≡ last_line script.now) }
 {
-    let mut buffer = [0u8; BUFFER];
-    let r = follow(output, script, &mut buffer, out);
-    lines::end_line(r.commands, r.unused, out, 0)
+    let mut owned = Memory {
+        hunter: Hunter {
+            begun: false,
+            k: 0,
+            waiting: 0,
+            octets: [0; 1024],
+        },
+        buffer: [0; BUFFER],
+    };
+    let r = follow(output, script, &mut owned, out);
+    r.line(out)
 }
 
 // The script, read first, and followed.

@@ -1,4 +1,3 @@
--- Laws of the commands of a clerk script, and of their lines.
-pub mod Letters
+-- Laws of what is lent, and of the lines of a clerk script.
+pub mod Lent
 pub mod Saying
-pub mod Outcomes

@@ -1,8 +1,7 @@
 -- Numbers written one behind the other, and the line of a letter. Assumes nothing.
 use mathlib.Core.Path.{◌≡◌, refl, ◌∙◌}
 use mathlib.Core.List.{List, [], ◌∷◌, ◌++◌, flat_map}
-use Prim.Native.Nat.{ℕ, ◌+◌, ◌-◌, ◌*◌, ◌≤◌, ◌<◌}
-use native.Mathlib.Nat.{sub-zero}
+use Prim.Native.Nat.{ℕ, ◌+◌, ◌*◌, ◌≤◌, ◌<◌}
 use native.Mathlib.Numerals.{add-one}
 use native.Mathlib.Omega.{arith}
 use lib.ListN.{length, get_or, take, drop, length-take, drop_of_length-le}
@@ -44,9 +43,9 @@ module _ (letter : ℕ) (s : Said) {before : List ℕ} where
   pub nothing-told : s.count ≡ 0 → Written before 0 (said_line letter (take s.count s.numbers)) before 0
   nothing-told e = rw e (nothing before 0)
 
-  -- the numbers as they are lent, `&numbers[0..n]`
+  -- the numbers as they are lent, `&numbers[..n]`
   pub said-told : {after : List ℕ} {end : ℕ} → (s.count ≡ 0 → ⊥) → length s.numbers ≡ 6
-      → Written before 0 (letter ∷ [] ++ flat_map spaced (take (s.count - 0) s.numbers) ++ newline) after end
+      → Written before 0 (letter ∷ [] ++ flat_map spaced (take s.count s.numbers) ++ newline) after end
       → Written before 0 (said_line letter (take s.count s.numbers)) after end
   said-told n size w =
-      line-told letter (take s.count s.numbers) (omega (arith, n, size, length-take s.count s.numbers)) (rw (sub-zero s.count) at w)
+      line-told letter (take s.count s.numbers) (omega (arith, n, size, length-take s.count s.numbers)) w

@@ -1,20 +1,15 @@
 -- What `clerk` owns, and what a command does to it, by its letter. Assumes nothing.
-use Rattle.std.specs.Prelude.{List, ◌++◌, ℕ, ◌/◌, ◌%◌, ◌^◌, min, eqb, take, drop, set, if◌then◌else◌}
+use Rattle.refusals.specs.declared.Refusal.{Refusal}
+use Rattle.std.specs.Prelude.{List, ◌++◌, ℕ, ◌/◌, ◌%◌, ◌^◌, min, eqb, take, drop, set, if◌then◌else◌, Result, Ok, Err}
 use Rattle.octets.specs.Buffer.{put}
 use Rattle.script.specs.declared.Command.{Command}
 use Rattle.facts.specs.declared.Facts.{Facts}
-use Rattle.catalogue.specs.declared.Entered.{Entered}
-use Rattle.catalogue.specs.declared.Entered.TheVariants.{Refused, Now}
 use Rattle.catalogue.specs.Entering.{Outcome, begun, file_entered}
 use Rattle.clerk.specs.declared.Held.{Held}
+use Rattle.clerk.specs.declared.Memory.{Memory}
 
 -- "It owns a buffer of 32,768 octets .. and two numbers ..: how many octets of the buffer, from its first on, are lent to a call, and how many octets
 -- the catalogue has"
-pub record Memory : Type 0 where
-  pub buffer : List ℕ
-  pub lent : ℕ
-  pub used : ℕ
-
 abbrev pub memory : Held → List ℕ → Memory
 memory h buffer = record { buffer = buffer; lent = h.lent; used = h.used }
 
@@ -32,9 +27,9 @@ abbrev pub enters_in : Command → List ℕ → Memory → Outcome
 enters_in x file m = file_entered (take m.lent m.buffer) m.used (facts_in x) file
 
 -- "after 0 the catalogue has as many octets as begin said", and "as enter said"
-abbrev pub used_after : Entered → ℕ → ℕ
-used_after (Refused n) used = used
-used_after (Now n) used = n
+abbrev pub used_after : Result ℕ Refusal → ℕ → ℕ
+used_after (Err n) used = used
+used_after (Ok n) used = n
 
 -- B and E: of the buffer, what was lent is what the call left there
 unfoldable pub wrote : Outcome → Memory → Memory

@@ -8,7 +8,8 @@ use Rattle.script.specs.declared.Command.{Command}
 use Rattle.catalogue.specs.Asking.{catalogue_read, file_asked, image_asked, channel_asked}
 use Rattle.catalogue.specs.Answers.{entered_said, read_said, file_said, image_said, channel_said}
 use Rattle.clerk.specs.declared.answers.Said.{Said}
-use Rattle.clerk.specs.Calls.{Memory, begins_in, enters_in}
+use Rattle.clerk.specs.declared.Memory.{Memory}
+use Rattle.clerk.specs.Calls.{begins_in, enters_in}
 
 -- "`J`, `F`, `I` and `C` are lent the octets of the catalogue: the first so many of those lent, or all that are lent if it is said to have more"
 abbrev pub handed_in : Memory → List ℕ

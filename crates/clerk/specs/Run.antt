@@ -2,12 +2,9 @@
 use Rattle.std.specs.Prelude.{List, ℕ, replicate}
 use Rattle.lines.specs.Lines.{end_line}
 use Rattle.script.specs.Follow.{Followed, followed}
-use Rattle.clerk.specs.declared.Ended.{Ended}
+use Rattle.clerk.specs.declared.Memory.{Memory}
 use Rattle.clerk.specs.Script.{payload_of}
-use Rattle.clerk.specs.Calls.{Memory, memory, carried_out}
-
-abbrev pub ended : Ended → List ℕ → Followed Memory
-ended r buffer = record { memory = memory r.held buffer; commands = r.commands; unused = r.unused }
+use Rattle.clerk.specs.Calls.{carried_out}
 
 -- what a script leaves of what is owned, and its two numbers
 abbrev pub entered : Memory → List ℕ → Followed Memory

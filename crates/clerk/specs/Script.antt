@@ -1,8 +1,6 @@
 -- How many octets follow a command of the script. Assumes nothing.
-use Rattle.std.specs.Prelude.{Bool, ◌||◌, ℕ, ◌%◌, ◌^◌, eqb, leb, if◌then◌else◌}
+use Rattle.std.specs.Prelude.{Bool, ◌||◌, ℕ, ◌%◌, ◌^◌, eqb, leb, if◌then◌else◌, Option, Some, None}
 use Rattle.script.specs.declared.Command.{Command}
-use Rattle.script.specs.declared.Payload.{Payload}
-use Rattle.script.specs.declared.Payload.TheVariants.{Octets, Refused}
 
 -- the letters of the table that no payload follows: M, B, J, F, I, C, P, H
 abbrev pub alone : ℕ → Bool
@@ -11,9 +9,9 @@ alone x =
 
 -- "A letter that is not in the table, a limit exceeded .. ends the run"; W: "c octets follow as payload (c up to 32,768)"; E: "the lower two octets of
 -- c say how many octets follow as payload"
-unfoldable pub payload_of : Command → Payload
+unfoldable pub payload_of : Command → Option ℕ
 payload_of x =
-    if eqb x.letter 0x57 then if leb x.c 32768 then Octets x.c else Refused
-    else if eqb x.letter 0x45 then Octets (x.c % 2 ^ 16)
-    else if alone x.letter then Octets 0
-    else Refused
+    if eqb x.letter 0x57 then if leb x.c 32768 then Some x.c else None
+    else if eqb x.letter 0x45 then Some (x.c % 2 ^ 16)
+    else if alone x.letter then Some 0
+    else None

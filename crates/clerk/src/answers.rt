@@ -1,11 +1,12 @@
 // The line that a command prints: its letter, the answer's number, and the values behind it.
-ghost use Rattle.std.specs.Prelude.{◌≡◌, ◌+◌, ◌*◌, ◌≤◌, length, take};
+ghost use Rattle.std.specs.Prelude.{◌≡◌, [], ◌∷◌, ◌+◌, ◌*◌, ◌≤◌, length, take};
 ghost use mathlib.Core.List.{flat_map};
 ghost use Rattle.text.specs.Pieces.{Written, spaced};
 ghost use Rattle.catalogue.specs.Answers.{entered_said, read_said, file_said, image_said, channel_said};
 ghost use Rattle.clerk.specs.Printed.{said_line, Says};
 
-use catalogue::{CatalogueRead, ChannelAsked, Entered, FileAsked, ImageAsked};
+use catalogue::{ChannelEntry, FileEntry, ImageEntry, Sizes};
+use refusals::Refusal;
 
 // The numbers of a line: so many of these. No line has more than six.
 #[derive(Clone, Copy)]
@@ -14,57 +15,53 @@ pub struct Said {
     pub count: usize,
 }
 
-pub fn entered_said(a: Entered) -> Said
+// The answer's number alone, which no value goes with.
+fn alone(n: u8) -> Said
+    ensures { Says result (n ∷ []) }
+{
+    Said {
+        numbers: [n as u64, 0, 0, 0, 0, 0],
+        count: 1,
+    }
+}
+
+pub fn entered_said(a: Result<usize, Refusal>) -> Said
     ensures { Says result (entered_said a) }
 {
     match a {
-        Entered::Refused(n) => Said {
-            numbers: [n as u64, 0, 0, 0, 0, 0],
-            count: 1,
-        },
-        Entered::Now(n) => Said {
+        Err(r) => alone(r.0),
+        Ok(n) => Said {
             numbers: [0, n as u64, 0, 0, 0, 0],
             count: 2,
         },
     }
 }
 
-pub fn read_said(a: CatalogueRead) -> Said
+pub fn read_said(a: Result<Sizes, Refusal>) -> Said
     ensures { Says result (read_said a) }
 {
     match a {
-        CatalogueRead::Refused(n) => Said {
-            numbers: [n as u64, 0, 0, 0, 0, 0],
-            count: 1,
-        },
-        CatalogueRead::Read(s) => Said {
+        Err(r) => alone(r.0),
+        Ok(s) => Said {
             numbers: [0, s.files as u64, s.images as u64, s.channels as u64, 0, 0],
             count: 4,
         },
     }
 }
 
-pub fn file_said(a: FileAsked) -> Said
+pub fn file_said(a: Result<Option<FileEntry>, Refusal>) -> Said
     ensures { Says result (file_said a) }
 {
     match a {
-        FileAsked::Refused(n) => Said {
-            numbers: [n as u64, 0, 0, 0, 0, 0],
-            count: 1,
-        },
-        FileAsked::Nothing => Said {
-            numbers: [0; 6],
-            count: 1,
-        },
-        FileAsked::There(e) => {
+        Err(r) => alone(r.0),
+        Ok(None) => alone(0),
+        Ok(Some(e)) => {
             let f = e.facts;
-            let channel = f.channel;
-            let application = f.application;
             Said {
                 numbers: [
                     0,
-                    channel.0 as u64,
-                    application.0 as u64,
+                    f.channel.0 as u64,
+                    f.application.0 as u64,
                     f.counter as u64,
                     f.bits,
                     e.kind as u64,
@@ -75,19 +72,13 @@ pub fn file_said(a: FileAsked) -> Said
     }
 }
 
-pub fn image_said(a: ImageAsked) -> Said
+pub fn image_said(a: Result<Option<ImageEntry>, Refusal>) -> Said
     ensures { Says result (image_said a) }
 {
     match a {
-        ImageAsked::Refused(n) => Said {
-            numbers: [n as u64, 0, 0, 0, 0, 0],
-            count: 1,
-        },
-        ImageAsked::Nothing => Said {
-            numbers: [0; 6],
-            count: 1,
-        },
-        ImageAsked::There(e) => {
+        Err(r) => alone(r.0),
+        Ok(None) => alone(0),
+        Ok(Some(e)) => {
             let p = e.picture;
             Said {
                 numbers: [
@@ -104,25 +95,16 @@ pub fn image_said(a: ImageAsked) -> Said
     }
 }
 
-pub fn channel_said(a: ChannelAsked) -> Said
+pub fn channel_said(a: Result<Option<ChannelEntry>, Refusal>) -> Said
     ensures { Says result (channel_said a) }
 {
     match a {
-        ChannelAsked::Refused(n) => Said {
-            numbers: [n as u64, 0, 0, 0, 0, 0],
-            count: 1,
+        Err(r) => alone(r.0),
+        Ok(None) => alone(0),
+        Ok(Some(e)) => Said {
+            numbers: [0, e.channel.0 as u64, e.files as u64, 0, 0, 0],
+            count: 3,
         },
-        ChannelAsked::Nothing => Said {
-            numbers: [0; 6],
-            count: 1,
-        },
-        ChannelAsked::There(e) => {
-            let channel = e.channel;
-            Said {
-                numbers: [0, channel.0 as u64, e.files as u64, 0, 0, 0],
-                count: 3,
-            }
-        }
     }
 }
 
@@ -132,10 +114,8 @@ fn spaced_all(numbers: &[u64], out: &mut [u8], at: usize) -> usize
     ensures { (result ≤ at + 21 * length numbers.now) × Written out.old at (flat_map spaced numbers.now) out.new result }
 {
     let mut end = at;
-    let mut i: usize = 0;
-    while i < numbers.len() {
-        end = text::number(numbers[i], out, end);
-        i += 1;
+    for n in numbers {
+        end = text::number(*n, out, end);
     }
     end
 }
@@ -149,9 +129,7 @@ pub fn said_line(letter: u8, s: Said, out: &mut [u8]) -> usize
     if n == 0 {
         return 0;
     }
-    let word = [letter];
-    let numbers = s.numbers;
-    let first = text::word(&word, out, 0);
-    let last = spaced_all(&numbers[0..n], out, first);
+    let first = text::word(&[letter], out, 0);
+    let last = spaced_all(&s.numbers[..n], out, first);
     text::line_end(out, last)
 }

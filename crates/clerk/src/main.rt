@@ -8,14 +8,14 @@
 mod answers;
 mod calls;
 
-ghost use Rattle.std.specs.Prelude.{◌≡◌, ◌≤◌, length, take, drop};
-ghost use Rattle.script.specs.declared.Payload.TheVariants.{Octets};
-ghost use Rattle.script.specs.Follow.{next_of};
+ghost use Rattle.std.specs.Prelude.{◌≡◌, ◌≤◌, length, take};
+ghost use Rattle.script.specs.Follow.{ended};
 ghost use Rattle.clerk.specs.Script.{payload_of};
-ghost use Rattle.clerk.specs.Calls.{memory, carried_out};
-ghost use Rattle.clerk.specs.Run.{ended, at_start, entered, last_line};
+ghost use Rattle.clerk.specs.Calls.{carried_out};
+ghost use Rattle.clerk.specs.Printed.{printed};
+ghost use Rattle.clerk.specs.Run.{entered, last_line};
 
-use script::{Command, Next};
+use script::{Command, Ended, Obeys};
 use std::io::{Stdin, Stdout};
 
 // The most octets that a script has, those of the buffer, and the room for the longest line.
@@ -32,81 +32,47 @@ pub struct Held {
     pub used: usize,
 }
 
-// What comes at place at.
-fn fetch(script: &[u8], at: usize) -> Next
-    requires { at ≤ length script.now }
-    ensures { result ≡ next_of payload_of (drop at script.now) }
-{
-    let left = script.len() - at;
-    if left < Command::SIZE {
-        return Next::Ends;
+// What the program owns: the buffer, and the two numbers.
+#[derive(Drop)]
+pub struct Memory {
+    pub buffer: [u8; BUFFER],
+    pub lent: usize,
+    pub used: usize,
+}
+
+impl Obeys for Memory {
+    ghost payload_of = { payload_of };
+
+    ghost carried_out = { carried_out };
+
+    ghost printed = { printed };
+
+    ghost Fits = { λ m. m.lent ≤ 32768 };
+
+    ghost room = { 128 };
+
+    fn payload(x: Command) -> Option<usize> {
+        calls::payload(x)
     }
-    let end = at + Command::SIZE;
-    let x = Command::read(&script[at..end]);
-    let p = calls::payload(x);
-    Next::by(left, x, p)
-}
 
-// One command carried out, and its text printed.
-fn obey(
-    mut output: Stdout,
-    h: Held,
-    x: Command,
-    payload: &[u8],
-    buffer: &mut [u8],
-    out: &mut [u8],
-) -> Held
-    requires { (length buffer.old ≡ 32768) × (length out.old ≡ 128) × (h.lent ≤ 32768) × (payload_of x ≡ Octets (length payload.now)) }
-    ensures { memory result buffer.new ≡ carried_out x payload.now (memory h buffer.old) }
-{
-    let a = calls::carry_out(h, x, payload, buffer, out);
-    let last = a.end;
-    pipes::write_all(&mut output, &out[0..last]);
-    let after = a.held;
-    after
-}
-
-// What a run leaves: the two numbers, how many commands were carried out, and how many octets of the script were not used.
-#[derive(Clone, Copy)]
-pub struct Ended {
-    pub held: Held,
-    pub commands: u64,
-    pub unused: u64,
+    fn carry_out(&mut self, x: Command, payload: &[u8], out: &mut [u8]) -> usize {
+        let h = Held {
+            lent: self.lent,
+            used: self.used,
+        };
+        let a = calls::carry_out(h, x, payload, &mut self.buffer, out);
+        self.lent = a.held.lent;
+        self.used = a.held.used;
+        a.end
+    }
 }
 
 // The script, command by command.
-fn follow(output: Stdout, script: &[u8], buffer: &mut [u8], out: &mut [u8]) -> Ended
-    requires { (length buffer.old ≡ 32768) × (length out.old ≡ 128) }
-    ensures { ended result buffer.new ≡ entered (at_start buffer.old) script.now }
+fn follow(mut output: Stdout, script: &[u8], owned: &mut Memory, out: &mut [u8]) -> Ended
+    requires { (owned.old.lent ≤ 32768) × (length out.old ≡ 128) }
+    ensures { ended owned.new result ≡ entered owned.old script.now }
 {
-    let mut h = Held { lent: 0, used: 0 };
-    let mut n: u64 = 0;
-    let mut at: usize = 0;
-    while at < script.len() {
-        let next = fetch(script, at);
-        match next {
-            Next::Ends => {
-                let unused = (script.len() - at) as u64;
-                return Ended {
-                    held: h,
-                    commands: n,
-                    unused: unused,
-                };
-            }
-            Next::Goes(x, k) => {
-                let from = at + Command::SIZE;
-                let to = from + k;
-                h = obey(output, h, x, &script[from..to], buffer, out);
-                at = to;
-            }
-        }
-        n += 1;
-    }
-    Ended {
-        held: h,
-        commands: n,
-        unused: 0,
-    }
+    script::follow(owned, &mut output, script, out)
 }
 
 // A whole script, from a buffer that is all zero. Its last line stands at the start of out, up to the place answered.
@@ -114,9 +80,13 @@ fn run(output: Stdout, script: &[u8], out: &mut [u8]) -> usize
     requires { length out.old ≡ 128 }
     ensures { (result ≤ 128) × (take result out.new ≡ last_line script.now) }
 {
-    let mut buffer = [0u8; BUFFER];
-    let r = follow(output, script, &mut buffer, out);
-    lines::end_line(r.commands, r.unused, out, 0)
+    let mut owned = Memory {
+        buffer: [0; BUFFER],
+        lent: 0,
+        used: 0,
+    };
+    let r = follow(output, script, &mut owned, out);
+    r.line(out)
 }
 
 // The script, read first, and followed.

@@ -4,12 +4,12 @@ use mathlib.Core.List.{List, [], ◌∷◌}
 use Prim.Native.Nat.{ℕ, zero, suc, ◌+◌, ◌*◌, ◌/◌, ◌%◌, ◌^◌, ◌<◌}
 use native.Mathlib.Omega.{arith}
 use borrow.Author.Tests.{ltb-true, ltb-false}
-use lib.Bits.{bit_xor, xor_lt, xor_block, xor_shr, xor_mod, xor_zero_r}
+use lib.Bits.{bit_xor, xor_lt, xor_block, xor_shr, xor_mod, xor_zero_r, xor_assoc}
 use lib.Dec.{ltb}
 use lib.ListN.{length, replicate}
 use Rattle.octets.specs.Number.{Octets}
 use Rattle.octets.proofs.Lists.{if-cases}
-use Rattle.octets.proofs.Xor.{xor_assoc, xor-exchange}
+use Rattle.octets.proofs.Xor.{xor-exchange}
 use Rattle.crc.specs.Crc.{bit, shifted, octet, crc_from}
 use Rattle.crc.proofs.Laws.{bit_below, octet-below}
 

@@ -4,12 +4,11 @@ use mathlib.Core.Path.{◌≡◌, sym, ap, ap₂, ◌∙◌}
 use mathlib.Core.List.{List, [], ◌∷◌}
 use Prim.Native.Nat.{ℕ, zero, suc, ◌+◌, ◌*◌, ◌/◌, ◌%◌, ◌<◌}
 use native.Mathlib.Omega.{arith}
-use lib.Bits.{bit_xor, xor_lt, xor_block, xor_shifted, xor_zero_l, xor_zero_r}
+use lib.Bits.{bit_xor, xor_lt, xor_block, xor_shifted, xor_zero_l, xor_zero_r, xor_assoc}
 use lib.ListN.{length, get_or, replicate}
 use Rattle.octets.specs.Number.{Octets}
 use Rattle.octets.specs.Table.{table_of}
 use Rattle.octets.proofs.Table.{table_at}
-use Rattle.octets.proofs.Xor.{xor_assoc}
 use Rattle.crc.specs.Crc.{shifted, octet, crc_from}
 use Rattle.crc.proofs.Laws.{octet-below, none_out}
 use Rattle.crc.proofs.Linear.{shifted-linear, crc-linear}

@@ -31,10 +31,8 @@ fn octet(c: u16, x: u8) -> u16
     ensures { result ≡ octet_of c x }
 {
     let mut r = c ^ ((x as u16) << 8);
-    let mut i: usize = 0;
-    while i < 8 {
+    for _ in 0..8usize {
         r = step(r);
-        i += 1;
     }
     r
 }
@@ -44,10 +42,8 @@ fn by_bits(register: u16, octets: &[u8]) -> u16
     ensures { result ≡ crc_from register octets.now }
 {
     let mut c = register;
-    let mut i: usize = 0;
-    while i < octets.len() {
-        c = octet(c, octets[i]);
-        i += 1;
+    for x in octets {
+        c = octet(c, *x);
     }
     c
 }
@@ -80,14 +76,12 @@ fn by_tables(register: u16, octets: &[u8]) -> u16
     let one = table(1);
     let none = table(0);
     let mut c = register;
-    let mut i: usize = 0;
-    while i < octets.len() {
-        let x = ((c >> 8) as u8) ^ octets[i];
-        let y = ((c % 0x100) as u8) ^ octets[i + 1];
-        let z = octets[i + 2];
-        let w = octets[i + 3];
+    for four in octets.chunks_exact(4) {
+        let x = ((c >> 8) as u8) ^ four[0];
+        let y = ((c % 0x100) as u8) ^ four[1];
+        let z = four[2];
+        let w = four[3];
         c = three[x as usize] ^ two[y as usize] ^ one[z as usize] ^ none[w as usize];
-        i += 4;
     }
     c
 }

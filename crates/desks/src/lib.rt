@@ -8,7 +8,7 @@ ghost use Rattle.std.specs.Prelude.{◌≡◌, true, ◌*◌, ◌≤◌, length,
 ghost use Rattle.octets.specs.Each.{each};
 ghost use Rattle.state.specs.Decision.{desk_holds, octets_held, desks_held};
 
-use frame::{Channel, CheckedCounter, Counter};
+use frame::{Channel, Counter};
 use packet::{Look, Packet};
 use state::Desk;
 
@@ -19,34 +19,17 @@ fn desk_holds(desk: Desk) -> bool
     if desk.held > Desk::MOST {
         return false;
     }
-    let last = desk.counter;
-    let checked = Counter::checked(last.0);
-    let CheckedCounter::Good(counter) = checked else {
+    let Some(counter) = Counter::checked(desk.counter.0) else {
         return false;
     };
-    if desk.seen {
-        return true;
-    }
-    if counter.0 != 0 {
-        return false;
-    }
-    desk.held == 0
+    desk.seen || counter.0 == 0 && desk.held == 0
 }
 
 pub fn desks_hold(desks: [Desk; Channel::MOST], n: u8) -> bool
     requires { n ≤ 8 }
     ensures { result ≡ each desk_holds (take n desks) }
 {
-    let count = n as usize;
-    let mut i: usize = 0;
-    while i < count {
-        let d = desks[i];
-        if !desk_holds(d) {
-            return false;
-        }
-        i += 1;
-    }
-    true
+    desks[..n as usize].iter().all(|desk| desk_holds(*desk))
 }
 
 // The octets of one desk, of which so many are held.
@@ -61,8 +44,7 @@ fn octets_held(desk: &[u8], held: u16) -> bool
     if h < Packet::HEADER {
         return true;
     }
-    let l = packet::look_at(desk);
-    let Look::Good(p) = l else {
+    let Look::Good(p) = packet::look_at(desk) else {
         return false;
     };
     h < p.size()
@@ -74,16 +56,11 @@ pub fn are_desks_sound(positions: [Desk; Channel::MOST], n: u8, desks: &[u8]) ->
     requires positions_hold { each desk_holds (take n positions) ≡ true }
     ensures { result ≡ desks_held 0 (take n positions) desks.now }
 {
-    let count = n as usize;
-    let mut i: usize = 0;
-    while i < count {
-        let d = positions[i];
+    for i in 0..n as usize {
         let at = i * Desk::SIZE;
-        let end = at + Desk::SIZE;
-        if !octets_held(&desks[at..end], d.held) {
+        if !octets_held(&desks[at..at + Desk::SIZE], positions[i].held) {
             return false;
         }
-        i += 1;
     }
     true
 }

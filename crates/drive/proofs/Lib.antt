@@ -1,4 +1,4 @@
--- Laws of the commands: what comes of a call, how many events a frame has, what a letter says.
+-- Laws of the commands: what comes of a call, how many events a frame has, what is lent.
 pub mod Outcomes
 pub mod Listed
-pub mod Letters
+pub mod Lent

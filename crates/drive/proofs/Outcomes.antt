@@ -1,4 +1,7 @@
 -- What comes of a call, for the whole buffers and as text. Assumes nothing.
+use Rattle.refusals.specs.declared.Refusal.{Refusal}
+use Rattle.refusals.specs.Refusals.{refuse}
+use Rattle.std.specs.Prelude.{Result, Ok}
 use mathlib.Core.Path.{◌≡◌, refl, sym, ap, subst, ◌∙◌}
 use mathlib.Core.List.{List, [], ◌∷◌, ◌++◌}
 use Prim.Native.Nat.{ℕ, zero, suc, ◌-◌, ◌≤◌}
@@ -14,8 +17,6 @@ use Rattle.station.specs.SetUp.{SetUpOutcome, set_up_gives, set_up}
 use Rattle.station.specs.Frame.{FrameOutcome, frame_gives, framed}
 use Rattle.station.specs.Files.{ReadOutcome, read_gives, read_out, told_of}
 use Rattle.station.specs.Handed.{WentOn}
-use Rattle.station.specs.declared.Told.{Told}
-use Rattle.station.specs.declared.Told.TheVariants.{Refused, Known}
 use Rattle.script.specs.declared.Command.{Command}
 use Rattle.script.specs.declared.Run.{Run}
 use Rattle.script.specs.Memory.{Memory, memory}
@@ -84,10 +85,10 @@ pub read_told : {n : ℕ} {buffer : List ℕ} {o : ReadOutcome} {before after : 
 read_told {before = before} {after = after} {end = end} e w = subst (λ (o : ReadOutcome). Written before 0 (read_printed o) after end) e w
 
 -- and of what is told of a file
-module _ {t : Told} {before after : List ℕ} {end : ℕ} where
-  pub refused-told : {n : ℕ} → t ≡ Refused n → Written before 0 (answer_line 0x49 n) after end → Written before 0 (told_printed t) after end
+module _ {t : Result Facts Refusal} {before after : List ℕ} {end : ℕ} where
+  pub refused-told : {n : ℕ} → t ≡ refuse n → Written before 0 (answer_line 0x49 n) after end → Written before 0 (told_printed t) after end
   refused-told {n} e w = rw e (rw (untold n) at w)
 
-  pub known-told : {f : Facts} → t ≡ Known f → Written before 0 (told_line 0 (f.channel.0 ∷ f.application.0 ∷ f.counter ∷ f.bits ∷ [])) after end
+  pub known-told : {f : Facts} → t ≡ Ok f → Written before 0 (told_line 0 (f.channel.0 ∷ f.application.0 ∷ f.counter ∷ f.bits ∷ [])) after end
       → Written before 0 (told_printed t) after end
   known-told e w = rw e w

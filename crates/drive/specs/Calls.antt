@@ -1,10 +1,11 @@
 -- What S, F, R, L and I do, on the octets lent, and what a command does by its letter. Assumes nothing.
-use Rattle.std.specs.Prelude.{List, ◌++◌, ℕ, eqb, drop, replicate, if◌then◌else◌}
+use Rattle.facts.specs.declared.Facts.{Facts}
+use Rattle.refusals.specs.declared.Refusal.{Refusal}
+use Rattle.std.specs.Prelude.{List, ◌++◌, ℕ, eqb, drop, replicate, if◌then◌else◌, Result}
 use Rattle.state.specs.declared.Station.{Station}
 use Rattle.station.specs.SetUp.{SetUpOutcome, set_up}
 use Rattle.station.specs.Frame.{FrameOutcome, framed}
 use Rattle.station.specs.declared.LetGo.{LetGo}
-use Rattle.station.specs.declared.Told.{Told}
 use Rattle.station.specs.Files.{ReadOutcome, read_out, file_let_go, told_of}
 use Rattle.script.specs.declared.Command.{Command}
 use Rattle.script.specs.Memory.{Memory, lent_desks, lent_store, with_state, poked_by}
@@ -47,7 +48,7 @@ unfoldable pub was_let_go : Command → Memory → Memory
 was_let_go x w = with_state w (let_go_by x w).station
 
 -- I: "the facts of the file of slot b .., lent the store as a read is"
-abbrev pub told_by : Command → Memory → Told
+abbrev pub told_by : Command → Memory → Result Facts Refusal
 told_by x w = told_of w.station (lent_store w) x.b
 
 -- what a command does, by its letter: S, F and L, then M, P and Q; R, I and H change nothing

@@ -1,10 +1,11 @@
 -- What each command prints. Assumes nothing.
-use Rattle.std.specs.Prelude.{List, [], ℕ, eqb, if◌then◌else◌}
+use Rattle.facts.specs.declared.Facts.{Facts}
+use Rattle.refusals.specs.declared.Refusal.{Refusal}
+use Rattle.std.specs.Prelude.{List, [], ℕ, eqb, if◌then◌else◌, Result}
 use Rattle.lines.specs.Lines.{answer_line, frame_lines, read_line, let_go_line, told_line}
 use Rattle.show.specs.Shown.{shown}
 use Rattle.station.specs.Frame.{FrameOutcome}
 use Rattle.station.specs.declared.LetGo.{LetGo}
-use Rattle.station.specs.declared.Told.{Told}
 use Rattle.station.specs.Files.{ReadOutcome, told_number, told_values}
 use Rattle.script.specs.declared.Command.{Command}
 use Rattle.script.specs.Memory.{Memory, lent_desks, lent_store}
@@ -23,7 +24,7 @@ abbrev pub let_go_printed : LetGo → List ℕ
 let_go_printed o = let_go_line o.answer o.complete
 
 -- "I answer", and the facts, of what is told of a file
-abbrev pub told_printed : Told → List ℕ
+abbrev pub told_printed : Result Facts Refusal → List ℕ
 told_printed o = told_line (told_number o) (told_values o)
 
 -- H: "shows everything", of the desks and of the store what is lent

@@ -9,9 +9,10 @@ ghost use Rattle.station.specs.Handed.{WentOn};
 ghost use Rattle.drive.specs.Calls.{set_up_by, was_set_up, frame_by, took_frame, read_by, was_let_go, told_by};
 ghost use Rattle.drive.specs.Printed.{frame_printed, read_printed, let_go_printed, told_printed, shown_by};
 
+use facts::Facts;
+use refusals::Refusal;
 use script::{Command, Run};
 use state::Station;
-use station::Told;
 
 // Set-up of the octets lent. The state after it is what set-up gave, also after a refusal.
 pub fn set_up(
@@ -75,7 +76,7 @@ fn frame_lent(
     let after = f.station;
     Taken {
         station: after,
-        end: end,
+        end,
     }
 }
 
@@ -116,7 +117,10 @@ fn read_lent(s: Station, x: Command, store: &[u8], buffer: &mut [u8], out: &mut 
     requires { (length buffer.old ≤ 16384) × (length out.old ≡ 90844) }
     ensures { (result ≤ 90844) × Written out.old 0 (read_printed (read_out s store.now x.b x.d buffer.old)) out.new result }
 {
-    let answer = files::read_file(s, store, x.b, x.d, buffer);
+    let answer = match files::read_file(s, store, x.b, x.d, buffer) {
+        Ok(()) => 0,
+        Err(r) => r.0,
+    };
     lines::read_line(answer, buffer, out, 0)
 }
 
@@ -135,17 +139,13 @@ pub fn read_file(w: Run, x: Command, store: &[u8], out: &mut [u8]) -> Run
 }
 
 // The line of what is told of a file.
-fn told_line(t: Told, out: &mut [u8]) -> usize
+fn told_line(t: Result<Facts, Refusal>, out: &mut [u8]) -> usize
     requires { length out.old ≡ 90844 }
     ensures { (result ≤ 90844) × Written out.old 0 (told_printed t) out.new result }
 {
     match t {
-        Told::Refused(n) => lines::answer_line(b'I', n, out, 0),
-        Told::Known(f) => {
-            let channel = f.channel;
-            let application = f.application;
-            lines::told_line(channel.0, application.0, f.counter, f.bits, out, 0)
-        }
+        Err(r) => lines::answer_line(b'I', r.0, out, 0),
+        Ok(f) => lines::told_line(f.channel.0, f.application.0, f.counter, f.bits, out, 0),
     }
 }
 

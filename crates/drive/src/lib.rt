@@ -6,9 +6,8 @@
 
 mod calls;
 
-ghost use Rattle.std.specs.Prelude.{◌≡◌, ◌≤◌, length};
+ghost use Rattle.std.specs.Prelude.{◌≡◌, ◌≤◌, Some, length};
 ghost use Rattle.text.specs.Pieces.{Written};
-ghost use Rattle.script.specs.declared.Payload.TheVariants.{Octets};
 ghost use Rattle.script.specs.Script.{payload_of};
 ghost use Rattle.script.specs.Memory.{memory};
 ghost use Rattle.drive.specs.Calls.{carried_out};
@@ -17,6 +16,7 @@ ghost use Rattle.drive.specs.Printed.{printed};
 use script::{Command, Run};
 
 // One command. Its text stands at the start of out.
+#[tactic(auto, unfolding(script::specs::Script::payload_of, script::specs::Memory::poked_by, crate::specs::Calls::carried_out, crate::specs::Calls::was_set_up, crate::specs::Calls::took_frame, crate::specs::Calls::was_let_go, crate::specs::Printed::printed))]
 pub fn carry_out(
     w: Run,
     x: Command,
@@ -26,28 +26,17 @@ pub fn carry_out(
     out: &mut [u8],
 ) -> Run
     requires desks_in_bounds { (w.desks ≤ length desks.old) × (w.store ≤ length store.old) × (length out.old ≡ 90844) }
-    requires x_value { payload_of x ≡ Octets (length payload.now) }
+    requires x_value { payload_of x ≡ Some (length payload.now) }
     ensures store_after { memory result desks.new store.new ≡ carried_out x payload.now (memory w desks.old store.old) }
     ensures end_bound { (result.end ≤ 90844) × Written out.old 0 (printed x payload.now (memory w desks.old store.old)) out.new result.end }
 {
-    let letter = x.letter;
-    if letter == b'S' {
-        return calls::set_up(w, x, payload, desks, store, out);
+    match x.letter {
+        b'S' => calls::set_up(w, x, payload, desks, store, out),
+        b'F' => calls::take_frame(w, x, payload, desks, store, out),
+        b'R' => calls::read_file(w, x, store, out),
+        b'L' => calls::let_file_go(w, x, out),
+        b'I' => calls::tell_file(w, x, store, out),
+        b'H' => calls::show_lent(w, desks, store, out),
+        _ => script::poke(w, x, desks, store),
     }
-    if letter == b'F' {
-        return calls::take_frame(w, x, payload, desks, store, out);
-    }
-    if letter == b'R' {
-        return calls::read_file(w, x, store, out);
-    }
-    if letter == b'L' {
-        return calls::let_file_go(w, x, out);
-    }
-    if letter == b'I' {
-        return calls::tell_file(w, x, store, out);
-    }
-    if letter == b'H' {
-        return calls::show_lent(w, desks, store, out);
-    }
-    script::poke(w, x, desks, store)
 }

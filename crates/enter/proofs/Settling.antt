@@ -1,11 +1,14 @@
 -- What entering refuses, and why; and what is known where it goes on. Assumes nothing.
+use Rattle.refusals.specs.declared.Refusal.{Refusal}
+use Rattle.refusals.specs.Refusals.{refuse}
+use Rattle.std.specs.Prelude.{Some, None, Result, Ok}
 use mathlib.Core.Path.{◌≡◌, sym, ap, ap₂, subst, ◌∙◌}
 use mathlib.Core.Bool.{true, false, not, ◌&&◌, and-false}
 use mathlib.Core.List.{List, [], ◌∷◌, ◌++◌, map}
 use Prim.Native.Nat.{ℕ, ◌+◌, ◌*◌, ◌<◌, ◌≤◌}
 use native.Mathlib.Omega.{arith}
 use borrow.Author.Tests.{le-leb, lt-leb, lt-ltb, le-ltb, eq-eqb, ne_eqb}
-use lib.Dec.{leb, eqb}
+use lib.Dec.{eqb}
 use lib.ListN.{length, take, drop, get_or, replicate}
 use Rattle.octets.specs.Number.{Octets}
 use Rattle.octets.specs.Buffer.{put}
@@ -17,8 +20,6 @@ use Rattle.sections.specs.Sections.{Row, entries}
 use Rattle.sections.proofs.Parts.{length-entries}
 use Rattle.catalogue.specs.declared.Places.{Places}
 use Rattle.catalogue.specs.declared.Entry.{Entry}
-use Rattle.catalogue.specs.declared.Found.TheVariants.{At, Nowhere}
-use Rattle.catalogue.specs.declared.Entered.TheVariants.{Refused, Now}
 use Rattle.catalogue.specs.Catalogue.{file_widths, file_row, image_row, channel_rows, channel_of, good_file, files_of}
 use Rattle.catalogue.specs.Reading.{tallied, found_in, Ready}
 use Rattle.catalogue.specs.Entering.{Outcome, gives, entered, held, entry_says, entry_entered}
@@ -26,21 +27,8 @@ use Rattle.catalogue.proofs.Exact.{few-files, good-files}
 use Rattle.catalogue.proofs.Lengths.{channels-length}
 use Rattle.catalogue.proofs.Counting.{low-channel}
 use Rattle.catalogue.proofs.Judging.{files-at, found-lies, found_none}
-use Rattle.enter.specs.declared.Ruling.{Ruling}
-use Rattle.enter.specs.declared.Ruling.TheVariants as ruling
 use Rattle.enter.specs.Contract.{Stands, Settled}
 use Rattle.grow.proofs.Entering.{map-append, ready-length}
-
--- the facts of an entry, test by test
-module _ (e : Entry) where
-  pub bad-channel : 62 < e.facts.channel.0 → false ≡ good_file (file_row e)
-  bad-channel h = sym (rw (lt-leb e.facts.channel.0 62 h))
-
-  pub bad-application : 2015 < e.facts.application.0 → false ≡ good_file (file_row e)
-  bad-application h = sym (rw (lt-leb e.facts.application.0 2015 h, and-false))
-
-  pub good-so : e.facts.channel.0 ≤ 62 → e.facts.application.0 ≤ 2015 → leb 1 e.facts.bits ≡ good_file (file_row e)
-  good-so h k = sym (rw (le-leb e.facts.channel.0 62 h, le-leb e.facts.application.0 2015 k))
 
 -- what was handed in is none
 module _ (b : List ℕ) (used : ℕ) (e : Entry) where
@@ -53,14 +41,13 @@ module _ (b : List ℕ) (used : ℕ) (e : Entry) where
   pub too_long : length b < used → First (entry_says b used e) 31
   too_long h = none-held (rw (lt-leb used (length b) h))
 
-  pub is_none : (j : ℕ) → j ≡ used → found_in (take j b) ≡ Nowhere → First (entry_says b used e) 31
-  is_none j z q = none-held (rw (sym z, found_none (take j b) q, and-false))
+  pub is_none : found_in (take used b) ≡ None → First (entry_says b used e) 31
+  is_none q = none-held (rw (found_none (take used b) q, and-false))
 
 -- it is one
-pub stands : (b : List ℕ) (used : ℕ) {at : Places} (j : ℕ) → j ≡ used → used ≤ length b → found_in (take j b) ≡ At at → Stands b used at
-stands b used {at} j z l q =
-    let f : found_in (take used b) ≡ At at = ap (λ (k : ℕ). found_in (take k b)) (sym z) ∙ q in
-    let k = found-lies f in
+pub stands : (b : List ℕ) (used : ℕ) {at : Places} → used ≤ length b → found_in (take used b) ≡ Some at → Stands b used at
+stands b used l q =
+    let k = found-lies q in
     record { catalogue = k.0; lies = k.1; within = l }
 
 module _ {b : List ℕ} {used : ℕ} {at : Places} (S : Stands b used at) where
@@ -103,20 +90,20 @@ module _ {b : List ℕ} {used : ℕ} {at : Places} (S : Stands b used at) where
         (omega (arith, files-count, k), omega (arith, files-count, k, i, L.second, L.images, L.third))
 
     -- what counting asks
-    pub files-ready : (e : Entry) → good_file (file_row e) ≡ true → (j : ℕ) → j ≡ used
-        → (2 + at.files * 14 ≤ length (take j b)) × (at.files ≤ 1024) × (each good_file (entries file_widths at.files (drop 2 (take j b))) ≡ true)
+    pub files-ready : (e : Entry) → good_file (file_row e) ≡ true
+        → (2 + at.files * 14 ≤ length xs) × (at.files ≤ 1024) × (each good_file (entries file_widths at.files (drop 2 xs)) ≡ true)
         × (e.facts.channel.0 < 63)
-    files-ready e g j z =
+    files-ready e g =
         let L = S.lies in
         let good : each good_file (entries file_widths at.files (drop 2 xs)) ≡ true
         = ap (each good_file) (sym (files-at L)) ∙ good-files xs (octets-take b used o) S.catalogue in
-        rw z (omega (arith, L.second, L.third, L.ends), few-at.0, good, low-channel (file_row e) g)
+        (omega (arith, L.second, L.third, L.ends), few-at.0, good, low-channel (file_row e) g)
 
   -- the counts make it ready
-  pub is-ready : (e : Entry) → at.files < 1024 → good_file (file_row e) ≡ true → (j : ℕ) → j ≡ used → {counts : List ℕ}
-      → counts ≡ tallied (replicate 63 0) (map channel_of (entries file_widths at.files (drop 2 (take j b))) ++ (e.facts.channel.0 ∷ []))
+  pub is-ready : (e : Entry) → at.files < 1024 → good_file (file_row e) ≡ true → {counts : List ℕ}
+      → counts ≡ tallied (replicate 63 0) (map channel_of (entries file_widths at.files (drop 2 xs)) ++ (e.facts.channel.0 ∷ []))
       → Ready b used at e counts
-  is-ready e n g j z q =
+  is-ready e n g q =
       record {
         catalogue = S.catalogue;
         lies = S.lies;
@@ -124,8 +111,7 @@ module _ {b : List ℕ} {used : ℕ} {at : Places} (S : Stands b used at) where
         good = g;
         few = n;
         counted = q ∙ ap (tallied (replicate 63 0))
-            (ap (λ (i : ℕ). map channel_of (entries file_widths at.files (drop 2 (take i b))) ++ (e.facts.channel.0 ∷ [])) z
-            ∙ ap (λ (rs : List Row). map channel_of rs ++ (e.facts.channel.0 ∷ [])) (sym (files-at S.lies))
+            (ap (λ (rs : List Row). map channel_of rs ++ (e.facts.channel.0 ∷ [])) (sym (files-at S.lies))
             ∙ sym (map-append channel_of (files_of xs) (file_row e ∷ [])));
       }
 
@@ -140,30 +126,30 @@ module _ {b : List ℕ} {used : ℕ} {at : Places} {e : Entry} {counts : List �
   S = record { catalogue = R.catalogue; lies = R.lies; within = R.within }
 
   abbrev done : Outcome
-  done = gives (Now (length (entered (take used b) e))) (put b 0 (entered (take used b) e))
+  done = gives (Ok (length (entered (take used b) e))) (put b 0 (entered (take used b) e))
 
   module _ {size : ℕ} (s : size ≡ length (entered (take used b) e)) where
-    pub is-short : length b < size → gives (Refused 34) b ≡ entry_entered b used e
+    pub is-short : length b < size → gives (refuse 34) b ≡ entry_entered b used e
     unfolding entry_entered
     is-short h =
         let f : First (entry_says b used e) 34
         = later (not_full S e R.few) (later (is_right S e R.few R.good) (here (lt-ltb (length b) (length (entered (take used b) e)) (omega arith)))) in
-        sym (first-decided done (λ (n : ℕ). gives (Refused n) b) f)
+        sym (first-decided done (λ (n : ℕ). gives (refuse n) b) f)
 
-    pub is-entered : size ≤ length b → {d : List ℕ} → d ≡ put b 0 (entered (take used b) e) → gives (Now size) d ≡ entry_entered b used e
+    pub is-entered : size ≤ length b → {d : List ℕ} → d ≡ put b 0 (entered (take used b) e) → gives (Ok size) d ≡ entry_entered b used e
     unfolding entry_entered
     is-entered h q =
-        ap₂ (λ (n : ℕ) (d : List ℕ). gives (Now n) d) s q
-        ∙ sym (none-decided done (λ (n : ℕ). gives (Refused n) b) (entry_says b used e)
+        ap₂ (λ (n : ℕ) (d : List ℕ). gives (Ok n) d) s q
+        ∙ sym (none-decided done (λ (n : ℕ). gives (refuse n) b) (entry_says b used e)
         (not_full S e R.few, (is_right S e R.few R.good, (le-ltb (length b) (length (entered (take used b) e)) (omega arith), tt))))
 
 -- what was settled
-module _ (b : List ℕ) (used : ℕ) (e : Entry) {r : Ruling} (s : Settled b used e r) where
-  pub settled-refused : {n : ℕ} → r ≡ ruling.Refused n → gives (Refused n) b ≡ entry_entered b used e
+module _ (b : List ℕ) (used : ℕ) (e : Entry) {r : Result Places Refusal} (s : Settled b used e r) where
+  pub settled-refused : {n : ℕ} → r ≡ refuse n → gives (refuse n) b ≡ entry_entered b used e
   unfolding entry_entered
   settled-refused q =
-      sym (first-decided (gives (Now (length (entered (take used b) e))) (put b 0 (entered (take used b) e))) (λ (n : ℕ). gives (Refused n) b)
+      sym (first-decided (gives (Ok (length (entered (take used b) e))) (put b 0 (entered (take used b) e))) (λ (n : ℕ). gives (refuse n) b)
       (subst (Settled b used e) q s))
 
-  pub settled-goes : {at : Places} → r ≡ ruling.Goes at → Stands b used at × (at.files < 1024) × (good_file (file_row e) ≡ true)
+  pub settled-goes : {at : Places} → r ≡ Ok at → Stands b used at × (at.files < 1024) × (good_file (file_row e) ≡ true)
   settled-goes q = subst (Settled b used e) q s

@@ -1,5 +1,6 @@
 -- What the functions of this crate hand to each other. Means, all of it. Assumes nothing.
-use Rattle.std.specs.Prelude.{◌≡◌, true, List, ℕ, ◌≤◌, ◌<◌, length, take}
+use Rattle.refusals.specs.declared.Refusal.{Refusal}
+use Rattle.std.specs.Prelude.{◌≡◌, true, List, ℕ, ◌≤◌, ◌<◌, length, take, Result, Ok, Err}
 use Rattle.octets.proofs.Reasons.{First}
 use Rattle.records.specs.declared.Header.{Header}
 use Rattle.facts.specs.declared.Facts.{Facts}
@@ -8,8 +9,6 @@ use Rattle.catalogue.specs.declared.Places.{Places}
 use Rattle.catalogue.specs.Catalogue.{file_row, good_file, accepts}
 use Rattle.catalogue.specs.Reading.{Lies}
 use Rattle.catalogue.specs.Entering.{image_facts, entry_says}
-use Rattle.enter.specs.declared.Ruling.{Ruling}
-use Rattle.enter.specs.declared.Ruling.TheVariants.{Refused, Goes}
 
 -- the entry of a file whose header says h
 abbrev pub entry_by : Facts → Header → Entry
@@ -21,7 +20,7 @@ pub record Stands (b : List ℕ) (used : ℕ) (at : Places) : Type 0 where
   pub lies : Lies (take used b) at
   pub within : used ≤ length b
 
--- what is known of each ruling
-abbrev pub Settled : List ℕ → ℕ → Entry → Ruling → Type 0
-Settled b used e (Refused n) = First (entry_says b used e) n
-Settled b used e (Goes at) = Stands b used at × (at.files < 1024) × (good_file (file_row e) ≡ true)
+-- what is known behind what was settled
+abbrev pub Settled : List ℕ → ℕ → Entry → Result Places Refusal → Type 0
+Settled b used e (Err n) = First (entry_says b used e) n.0
+Settled b used e (Ok at) = Stands b used at × (at.files < 1024) × (good_file (file_row e) ≡ true)

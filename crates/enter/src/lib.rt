@@ -12,11 +12,12 @@ ghost use Rattle.catalogue.specs.Reading.{tallied};
 ghost use Rattle.catalogue.specs.Entering.{image_facts, gives, entry_entered, file_entered, begun};
 ghost use Rattle.enter.specs.Contract.{entry_by, Stands, Settled};
 
-use catalogue::{Entered, Entry, Found, Image, Picture, Places};
+use catalogue::{Entry, Picture, Places};
 use facts::Facts;
 use frame::Channel;
 use packet::Application;
-use records::{Header, HeaderRead, ImageSegment, ImageStructure};
+use records::{Header, Image, Segment};
+use refusals::Refusal;
 
 // The counts of the channels of n good files from place 2 on, and of one file more.
 fn counts_with(s: &[u8], n: usize, channel: u8) -> [u16; Entry::CHANNELS]
@@ -25,7 +26,7 @@ fn counts_with(s: &[u8], n: usize, channel: u8) -> [u16; Entry::CHANNELS]
 {
     let mut counts = catalogue::tally(s, 2, n);
     let c = channel as usize;
-    counts[c] = counts[c] + 1;
+    counts[c] += 1;
     counts
 }
 
@@ -34,142 +35,90 @@ fn good_facts(e: Entry) -> bool
     ensures { result ≡ good_file (file_row e) }
 {
     let f = e.facts;
-    let channel = f.channel;
-    if channel.0 > Channel::LAST {
-        return false;
-    }
-    let application = f.application;
-    if application.0 > Application::LAST_FILE {
-        return false;
-    }
-    f.bits > 0
-}
-
-// What is decided before the new octets are counted: a refusal, or where the sections of the catalogue lie.
-#[derive(Clone, Copy)]
-pub enum Ruling {
-    Refused(u8),
-    Goes(Places),
-}
-
-// Refusal 30, and 31 for the facts.
-fn settle_at(b: &[u8], used: usize, at: Places, e: Entry) -> Ruling
-    requires { Stands b.now used at }
-    ensures { Settled b.now used e result }
-{
-    if at.files == Entry::MOST {
-        return Ruling::Refused(30);
-    }
-    if !good_facts(e) {
-        return Ruling::Refused(31);
-    }
-    Ruling::Goes(at)
+    f.channel.0 <= Channel::LAST && f.application.0 <= Application::LAST_FILE && f.bits > 0
 }
 
 // Refusals 30 and 31.
-fn settle(b: &[u8], used: usize, e: Entry) -> Ruling
+fn settle(b: &[u8], used: usize, e: Entry) -> Result<Places, Refusal>
     ensures { Settled b.now used e result }
 {
     if used > b.len() {
-        return Ruling::Refused(31);
+        return Err(Refusal::NO_CATALOGUE);
     }
-    let found = catalogue::find(&b[0..used]);
-    match found {
-        Found::Nowhere => Ruling::Refused(31),
-        Found::At(at) => settle_at(b, used, at, e),
+    let at = catalogue::find(&b[..used]).ok_or(Refusal::NO_CATALOGUE)?;
+    if at.files == Entry::MOST {
+        return Err(Refusal::FULL);
     }
+    if !good_facts(e) {
+        return Err(Refusal::NO_CATALOGUE);
+    }
+    Ok(at)
 }
 
 // One entry more where neither 30 nor 31 applies.
-fn enter_at(buffer: &mut [u8], used: usize, at: Places, e: Entry) -> Entered
+fn enter_at(buffer: &mut [u8], used: usize, at: Places, e: Entry) -> Result<usize, Refusal>
     requires { Stands buffer.old used at × (at.files < 1024) × (good_file (file_row e) ≡ true) }
     ensures { gives result buffer.new ≡ entry_entered buffer.old used e }
 {
-    let f = e.facts;
-    let channel = f.channel;
-    let counts = counts_with(&buffer[0..used], at.files, channel.0);
-    let image = e.image;
-    let size = grow::size_with(at.third, image, counts);
+    let counts = counts_with(&buffer[..used], at.files, e.facts.channel.0);
+    let size = grow::size_with(at.third, e.image, counts);
     if buffer.len() < size {
-        return Entered::Refused(34);
+        return Err(Refusal::NO_ROOM);
     }
     grow::append(buffer, used, at, e, counts);
-    Entered::Now(size)
+    Ok(size)
 }
 
 // One entry more in a catalogue of used octets at the front of a lent buffer.
-fn enter_entry(buffer: &mut [u8], used: usize, e: Entry) -> Entered
+fn enter_entry(buffer: &mut [u8], used: usize, e: Entry) -> Result<usize, Refusal>
     ensures { gives result buffer.new ≡ entry_entered buffer.old used e }
 {
-    let ruling = settle(buffer, used, e);
-    match ruling {
-        Ruling::Refused(n) => Entered::Refused(n),
-        Ruling::Goes(at) => enter_at(buffer, used, at, e),
-    }
+    let at = settle(buffer, used, e)?;
+    enter_at(buffer, used, at, e)
 }
 
-fn image_facts(image: ImageStructure, segment: ImageSegment) -> Image
+fn image_facts(image: Option<Image>, segment: Option<Segment>) -> Option<Picture>
     ensures { result ≡ image_facts image segment }
 {
-    match image {
-        ImageStructure::Absent => Image::Absent,
-        ImageStructure::There(i) => match segment {
-            ImageSegment::Absent => {
-                let p = Picture {
-                    columns: i.columns,
-                    lines: i.lines,
-                    number: 0,
-                    total: 0,
-                };
-                Image::There(p)
-            }
-            ImageSegment::There(s) => {
-                let p = Picture {
-                    columns: i.columns,
-                    lines: i.lines,
-                    number: s.number,
-                    total: s.total,
-                };
-                Image::There(p)
-            }
-        },
-    }
+    let i = image?;
+    let (number, total) = match segment {
+        None => (0, 0),
+        Some(s) => (s.number, s.total),
+    };
+    Some(Picture {
+        columns: i.columns,
+        lines: i.lines,
+        number,
+        total,
+    })
 }
 
 fn entry_for(f: Facts, h: Header) -> Entry
     ensures { result ≡ entry_by f h }
 {
-    let primary = h.primary;
-    let structure = h.image;
-    let segment = h.segment;
-    let image = image_facts(structure, segment);
     Entry {
         facts: f,
-        kind: primary.filetype,
-        image: image,
+        kind: h.primary.filetype,
+        image: image_facts(h.image, h.segment),
     }
 }
 
 // Enters a complete file in the catalogue of used octets at the front of a lent buffer: its facts, and its octets for its header. Answers 0 with the
 // octets that the catalogue has now, or 20 to 26, 30, 31, 34.
-pub fn enter(buffer: &mut [u8], used: usize, f: Facts, file: &[u8]) -> Entered
+pub fn enter(buffer: &mut [u8], used: usize, f: Facts, file: &[u8]) -> Result<usize, Refusal>
     ensures { gives result buffer.new ≡ file_entered buffer.old used f file.now }
 {
-    let answer = fields::read_header(file);
-    let read = answer.read;
-    match read {
-        HeaderRead::Refused(n) => Entered::Refused(n),
-        HeaderRead::Read(h) => enter_entry(buffer, used, entry_for(f, h)),
-    }
+    let h = fields::read_header(file)?;
+    enter_entry(buffer, used, entry_for(f, h))
 }
 
 // An empty catalogue at the front of a lent buffer. Answers 0 with its six octets, or 34.
-pub fn begin(buffer: &mut [u8]) -> Entered
+pub fn begin(buffer: &mut [u8]) -> Result<usize, Refusal>
     ensures { gives result buffer.new ≡ begun buffer.old }
 {
     if buffer.len() < 6 {
-        return Entered::Refused(34);
+        return Err(Refusal::NO_ROOM);
     }
     octets::blank(buffer, 0, 6);
-    Entered::Now(6)
+    Ok(6)
 }

@@ -8,36 +8,37 @@ ghost use Rattle.std.specs.Prelude.{◌≡◌, ◌≤◌, length, take};
 ghost use Rattle.frame.specs.Header.{marker, starts_with};
 ghost use Rattle.frame.specs.Refusals.{examined_header, examined, plain_after};
 
-use frame::{Accepted, Channel, Examined, Frame, Pointer, Watch};
+use frame::{Accepted, Channel, Frame, Pointer};
+use refusals::Refusal;
 
 // Refusals 5 to 9, from the header.
-fn examine_header(h: Frame, spacecraft: u8, watched: [Channel; Channel::MOST], n: u8) -> Examined
+fn examine_header(
+    h: Frame,
+    spacecraft: u8,
+    watched: [Channel; Channel::MOST],
+    n: u8,
+) -> Result<Accepted, Refusal>
     requires { n ≤ 8 }
     ensures { result ≡ examined_header spacecraft (take n watched) h }
 {
     if h.version != Frame::VERSION {
-        return Examined::Refused(5);
+        return Err(Refusal::VERSION);
     }
     if h.spacecraft != spacecraft {
-        return Examined::Refused(6);
+        return Err(Refusal::SPACECRAFT);
     }
-    let channel = h.channel;
-    if channel.0 == Channel::FILL {
-        return Examined::Refused(7);
+    if h.channel.0 == Channel::FILL {
+        return Err(Refusal::FILL);
     }
-    let w = frame::desk_of(watched, n, channel);
-    let Watch::Desk(desk) = w else {
-        return Examined::Refused(8);
-    };
-    let p = frame::meaning(h.pointer);
-    if let Pointer::Refused = p {
-        return Examined::Refused(9);
+    let desk = frame::desk_of(watched, n, h.channel).ok_or(Refusal::NOT_WATCHED)?;
+    let pointer = frame::meaning(h.pointer);
+    if let Pointer::Refused = pointer {
+        return Err(Refusal::POINTER);
     }
-    let counter = h.counter;
-    Examined::Good(Accepted {
-        desk: desk,
-        counter: counter,
-        pointer: p,
+    Ok(Accepted {
+        desk,
+        counter: h.counter,
+        pointer,
     })
 }
 
@@ -46,8 +47,7 @@ fn marked(frame: &[u8]) -> bool
     requires { 4 ≤ length frame.now }
     ensures { result ≡ starts_with marker frame.now }
 {
-    let m = Frame::MARKER;
-    octets::u32_at(frame, 0) == octets::u32_at(&m, 0)
+    octets::u32_at(frame, 0) == octets::u32_at(&Frame::MARKER, 0)
 }
 
 // Refusals 3 to 9. The scratch octets hold the derandomised frame afterwards, if it has its size and its marker.
@@ -57,16 +57,16 @@ pub fn examine(
     spacecraft: u8,
     watched: [Channel; Channel::MOST],
     n: u8,
-) -> Examined
+) -> Result<Accepted, Refusal>
     requires { (length plain.old ≡ 1020) × (n ≤ 8) }
     ensures value { result ≡ examined spacecraft (take n watched) frame.now }
     ensures plain_after { plain.new ≡ plain_after frame.now plain.old }
 {
     if frame.len() != Frame::SIZE {
-        return Examined::Refused(3);
+        return Err(Refusal::SIZE);
     }
     if !marked(frame) {
-        return Examined::Refused(4);
+        return Err(Refusal::MARKER);
     }
     noise::mix(&frame[Frame::CODED_AT..Frame::SIZE], plain);
     let h = Frame::read(plain);

@@ -10,14 +10,8 @@ ghost use Rattle.frame.specs.Kinds.{checked_channel, checked_counter, next_count
 ghost use Rattle.frame.specs.Header.{frame_of, Bounded, pointer_meaning};
 
 // A channel number. It cannot stand for an application number, nor the other way round.
-#[derive(Clone, Copy)]
+#[derive(Clone, Copy, PartialEq, Eq)]
 pub struct Channel(pub u8);
-
-#[derive(Clone, Copy)]
-pub enum CheckedChannel {
-    Good(Channel),
-    Bad,
-}
 
 impl Channel {
     // A channel number has six bits.
@@ -29,36 +23,30 @@ impl Channel {
     // So many at most are watched.
     pub const MOST: usize = 8;
 
-    pub fn checked(n: u8) -> CheckedChannel
+    pub fn checked(n: u8) -> Option<Channel>
         ensures { result ≡ checked_channel n }
     {
         if n <= Channel::LAST {
-            return CheckedChannel::Good(Channel(n));
+            return Some(Channel(n));
         }
-        CheckedChannel::Bad
+        None
     }
 }
 
 // A frame counter: the frames of one channel count modulo 2^24.
-#[derive(Clone, Copy)]
+#[derive(Clone, Copy, PartialEq, Eq)]
 pub struct Counter(pub u32);
-
-#[derive(Clone, Copy)]
-pub enum CheckedCounter {
-    Good(Counter),
-    Bad,
-}
 
 impl Counter {
     pub const MODULUS: u32 = 16777216;
 
-    pub fn checked(n: u32) -> CheckedCounter
+    pub fn checked(n: u32) -> Option<Counter>
         ensures { result ≡ checked_counter n }
     {
         if n < Counter::MODULUS {
-            return CheckedCounter::Good(Counter(n));
+            return Some(Counter(n));
         }
-        CheckedCounter::Bad
+        None
     }
 
     pub fn next(self) -> Counter
@@ -72,8 +60,7 @@ impl Counter {
     pub fn follows(self, last: Counter) -> bool
         ensures { result ≡ counter_follows last self }
     {
-        let n = last.next();
-        self.0 == n.0
+        self == last.next()
     }
 }
 
@@ -132,8 +119,8 @@ impl Frame {
         Frame {
             version: (first / 16384) as u8,
             spacecraft: (first / Channel::BOUND % 256) as u8,
-            channel: channel,
-            counter: counter,
+            channel,
+            counter,
             pointer: last % Frame::POINTERS,
         }
     }
@@ -151,28 +138,12 @@ pub fn meaning(pointer: u16) -> Pointer
     Pointer::Refused
 }
 
-// Where a channel stands among those watched.
-#[derive(Clone, Copy)]
-pub enum Watch {
-    Desk(usize),
-    NotWatched,
-}
-
 // The desk of a channel among the first n of those named.
-pub fn desk_of(watched: [Channel; Channel::MOST], n: u8, channel: Channel) -> Watch
+pub fn desk_of(watched: [Channel; Channel::MOST], n: u8, channel: Channel) -> Option<usize>
     requires { n ≤ 8 }
     ensures { result ≡ desk_of (take n watched) channel }
 {
-    let count = n as usize;
-    let mut i: usize = 0;
-    while i < count {
-        let w = watched[i];
-        if w.0 == channel.0 {
-            return Watch::Desk(i);
-        }
-        i += 1;
-    }
-    Watch::NotWatched
+    watched[..n as usize].iter().position(|w| *w == channel)
 }
 
 // A frame that is not refused: its desk, its counter and what its pointer says.
@@ -181,10 +152,4 @@ pub struct Accepted {
     pub desk: usize,
     pub counter: Counter,
     pub pointer: Pointer,
-}
-
-#[derive(Clone, Copy)]
-pub enum Examined {
-    Refused(u8),
-    Good(Accepted),
 }

@@ -1,19 +1,21 @@
--- Entries written, and the loops over the channels. Assumes nothing.
+-- Entries written, the loop over the channels, and their number. Assumes nothing.
+use Rattle.std.specs.Prelude.{if◌then◌else◌, count_by, Option, Some, None}
 use mathlib.Core.Path.{◌≡◌, refl, sym, ap, ap₂, ◌∙◌}
+use mathlib.Core.Bool.{Bool, true, false, not, cond}
 use mathlib.Core.List.{List, [], ◌∷◌, ◌++◌, append-nil}
-use Prim.Native.Nat.{ℕ, ◌+◌, ◌*◌, ◌-◌, ◌<◌, ◌≤◌}
-use native.Mathlib.Nat.{sub-zero}
+use Prim.Native.Nat.{ℕ, suc, ◌+◌, ◌*◌, ◌-◌, ◌<◌, ◌≤◌}
+use native.Mathlib.Nat.{add-zero, sub-zero}
 use native.Mathlib.Omega.{arith}
+use lib.Dec.{eqb}
 use lib.ListN.{length, take, drop, get_or, length-append}
 use lib.Seq.{take_all}
+use Rattle.std.proofs.lemmas.List.Sums.{sum_by-cons}
 use Rattle.octets.specs.Number.{in_octets}
 use Rattle.octets.specs.Buffer.{put}
 use Rattle.octets.proofs.Put.{put-nil, put-put, put_whole, length-put}
 use Rattle.octets.proofs.Storing.{length-in_octets}
 use Rattle.sections.specs.Sections.{Row, size, row, rows, section}
 use Rattle.catalogue.specs.declared.Picture.{Picture}
-use Rattle.catalogue.specs.declared.Image.{Image}
-use Rattle.catalogue.specs.declared.Image.TheVariants.{Absent, There}
 use Rattle.catalogue.specs.declared.Entry.{Entry}
 use Rattle.catalogue.specs.Catalogue.{file_widths, file_row, image_widths, image_row, channel_widths, channel_rows}
 use Rattle.catalogue.proofs.Lengths.{file-fourteen, image-eight, channel-three}
@@ -36,28 +38,28 @@ unfolding rows
 one-row ws r = append-nil (row ws r)
 
 -- the entry of the image section, or none
-pub no-image : (i : ℕ) (d : List ℕ) {q : Image} → q ≡ Absent → take (length (image_row 0 q) * 8) d ≡ rows image_widths (image_row i q)
+pub no-image : (i : ℕ) (d : List ℕ) {q : Option Picture} → q ≡ None → take (length (image_row 0 q) * 8) d ≡ rows image_widths (image_row i q)
 unfolding rows
 no-image i d e = rw e
 
-pub an-image : (i : ℕ) {d : List ℕ} {q : Image} {p : Picture} → q ≡ There p
+pub an-image : (i : ℕ) {d : List ℕ} {q : Option Picture} {p : Picture} → q ≡ Some p
     → d ≡ row image_widths (i ∷ p.columns ∷ p.lines ∷ p.number ∷ p.total ∷ []) → take (length (image_row 0 q) * 8) d ≡ rows image_widths (image_row i q)
 an-image i {d} {q} {p} e h =
     let r : Row = i ∷ p.columns ∷ p.lines ∷ p.number ∷ p.total ∷ [] in
     let l : length d ≤ 8 = omega (arith, ap length h, row-size image_widths r refl) in
     rw e (take_all 8 d l ∙ h ∙ sym (one-row image_widths r))
 
-pub image-part : (q : Image) (more : ℕ) (d : List ℕ) {r : List ℕ} → more ≡ length (image_row 0 q)
+pub image-part : (q : Option Picture) (more : ℕ) (d : List ℕ) {r : List ℕ} → more ≡ length (image_row 0 q)
     → take (length (image_row 0 q) * 8) d ≡ r → take (more * 8 - 0) (drop 0 d) ≡ r
 image-part q more d e h =
     let z : more * 8 - 0 ≡ length (image_row 0 q) * 8 = omega arith in
     ap (λ (k : ℕ). take k d) z ∙ h
 
-pub count-image : (i : ℕ) (q : Image) → length (image_row i q) ≡ length (image_row 0 q)
-count-image i Absent = refl
-count-image i (There p) = refl
+pub count-image : (i : ℕ) (q : Option Picture) → length (image_row i q) ≡ length (image_row 0 q)
+count-image i None = refl
+count-image i (Some p) = refl
 
-pub length-image : (i : ℕ) (q : Image) → length (rows image_widths (image_row i q)) ≡ length (image_row 0 q) * 8
+pub length-image : (i : ℕ) (q : Option Picture) → length (rows image_widths (image_row i q)) ≡ length (image_row 0 q) * 8
 length-image i q = image-eight i q ∙ ap (λ (k : ℕ). k * 8) (count-image i q)
 
 pub one-file : (e : Entry) → length (rows file_widths (file_row e ∷ [])) ≡ 14
@@ -65,7 +67,6 @@ one-file e = ap length (one-row file_widths (file_row e)) ∙ file-fourteen e
 
 -- the loop that writes the channels: what is left to write, put behind what was written, gives the section's entries
 pub record Noting (N at : ℕ) (counts was dst : List ℕ) (c p : ℕ) : Type 0 where
-  pub low : c ≤ N
   pub long : length dst ≡ length was
   pub room : p + length (rows channel_widths (channel_rows (λ (x : ℕ). get_or counts x 0) (N - c) c)) ≤ length dst
   pub gives : put was at (rows channel_widths (channel_rows (λ (x : ℕ). get_or counts x 0) N 0))
@@ -73,7 +74,7 @@ pub record Noting (N at : ℕ) (counts was dst : List ℕ) (c p : ℕ) : Type 0 
 
 pub noting : (N at : ℕ) (counts was : List ℕ) → at + length (rows channel_widths (channel_rows (λ (x : ℕ). get_or counts x 0) N 0)) ≤ length was
     → Noting N at counts was was 0 at
-noting N at counts was h = record { low = omega arith; long = refl; room = simp sub-zero h; gives = simp sub-zero }
+noting N at counts was h = record { long = refl; room = simp sub-zero h; gives = simp sub-zero }
 
 module _ {N at : ℕ} {counts was dst : List ℕ} {c p : ℕ} (W : Noting N at counts was dst c p) where
   abbrev f : ℕ → ℕ
@@ -89,7 +90,6 @@ module _ {N at : ℕ} {counts was dst : List ℕ} {c p : ℕ} (W : Noting N at c
   note-skip h e =
       let s = rows-skip f N c h e in
       record {
-        low = omega arith;
         long = W.long;
         room = rw s at W.room;
         gives = W.gives ∙ ap (λ (rs : List Row). put dst p (rows channel_widths rs)) s;
@@ -108,7 +108,6 @@ module _ {N at : ℕ} {counts was dst : List ℕ} {c p : ℕ} (W : Noting N at c
       let same : length d ≡ length dst = ap length q ∙ length-put dst p this in
       let l : p + 3 ≡ p + length this = omega (arith, channel-three c (f c)) in
       record {
-        low = omega arith;
         long = same ∙ W.long;
         room = omega (arith, same, note-room h e);
         gives = W.gives ∙ ap (put dst p) (next-rows h e) ∙ sym (ap₂ (λ (b : List ℕ) (k : ℕ). put b k rest) q l ∙ put-put this dst p rest);
@@ -118,30 +117,26 @@ module _ {N at : ℕ} {counts was dst : List ℕ} {c p : ℕ} (W : Noting N at c
   unfolding rows
   note-end h = sym (W.gives ∙ ap (λ (rs : List Row). put dst p (rows channel_widths rs)) (rows_none f N c h) ∙ put-nil dst p)
 
--- the loop that counts them
-pub record Speaking (N : ℕ) (counts : List ℕ) (c k : ℕ) : Type 0 where
-  pub low : c ≤ N
-  pub few : k ≤ c
-  pub gives : length (channel_rows (λ (x : ℕ). get_or counts x 0) N 0) ≡ k + length (channel_rows (λ (x : ℕ). get_or counts x 0) (N - c) c)
+-- the count of them: those whose number of files is not 0
+spoken-from : (f : ℕ → ℕ) (ns : List ℕ) (c : ℕ) → ((i : ℕ) → get_or ns i 0 ≡ f (c + i))
+    → count_by (λ (n : ℕ). not (eqb n 0)) ns ≡ length (channel_rows f (length ns) c)
+unfolding channel_rows
+spoken-from f [] c h = refl
+spoken-from f (n ∷ ns) c h =
+    let here : n ≡ f c = h 0 ∙ ap f (add-zero c) in
+    let rest = spoken-from f ns (suc c) (λ i. h (suc i) ∙ ap f (omega arith)) in
+    sum_by-cons (λ (x : ℕ). cond (not (eqb x 0)) 1 0) n ns ∙ rw (here, rest) (by-test (eqb (f c) 0))
+  where
+    by-test : (b : Bool) → cond (not b) 1 0 + length (channel_rows f (length ns) (suc c))
+        ≡ length (if b then channel_rows f (length ns) (suc c) else (c ∷ f c ∷ []) ∷ channel_rows f (length ns) (suc c))
+    by-test true = omega arith
+    by-test false = omega arith
 
-pub speaking : (N : ℕ) (counts : List ℕ) → Speaking N counts 0 0
-speaking N counts = record { low = omega arith; few = omega arith; gives = simp sub-zero (omega arith) }
-
-module _ {N : ℕ} {counts : List ℕ} {c k : ℕ} (S : Speaking N counts c k) where
-  pub speak-skip : c < N → get_or counts c 0 ≡ 0 → Speaking N counts (c + 1) k
-  speak-skip h e =
-      let s = ap length (rows-skip (λ (x : ℕ). get_or counts x 0) N c h e) in
-      record { low = omega arith; few = omega (arith, S.few); gives = omega (arith, s, S.gives) }
-
-  pub speak-more : c < N → (get_or counts c 0 ≡ 0 → ⊥) → Speaking N counts (c + 1) (k + 1)
-  speak-more h e =
-      let s = ap length (rows_next (λ (x : ℕ). get_or counts x 0) N c h e) in
-      record { low = omega arith; few = omega (arith, S.few); gives = omega (arith, s, S.gives) }
-
-  pub speak-end : N ≤ c → (k ≡ length (channel_rows (λ (x : ℕ). get_or counts x 0) N 0)) × (k ≤ N)
-  speak-end h =
-      let s = ap length (rows_none (λ (x : ℕ). get_or counts x 0) N c h) in
-      (omega (arith, s, S.gives), omega (arith, S.low, S.few))
+pub speaking : (counts : List ℕ) → length counts ≡ 63
+    → count_by (λ (n : ℕ). not (eqb n 0)) counts ≡ length (channel_rows (λ (x : ℕ). get_or counts x 0) 63 0)
+speaking counts e =
+    spoken-from (λ (x : ℕ). get_or counts x 0) counts 0 (λ i. ap (λ (j : ℕ). get_or counts j 0) (omega arith))
+    ∙ ap (λ (k : ℕ). length (channel_rows (λ (x : ℕ). get_or counts x 0) k 0)) e
 
 -- the channel section: its count, then its entries
 pub channels-made : (b : List ℕ) (p k : ℕ) (cs : List Row) {b₁ b₂ : List ℕ} → k ≡ length cs → b₁ ≡ put b p (in_octets 2 k)

@@ -13,23 +13,13 @@ ghost use Rattle.catalogue.specs.Catalogue.{file_widths, image_widths, channel_w
 ghost use Rattle.catalogue.specs.Reading.{Ready};
 ghost use Rattle.catalogue.specs.Entering.{entered};
 
-use catalogue::{Entry, Image, Picture, Places};
+use catalogue::{Entry, Picture, Places};
 
 // How many channels have files.
 fn spoken(counts: [u16; Entry::CHANNELS]) -> usize
     ensures { (result ≡ length (channel_rows (λ (c : ℕ). get_or counts c 0) 63 0)) × (result ≤ 63) }
 {
-    let mut c: usize = 0;
-    let mut k: usize = 0;
-    while c < Entry::CHANNELS {
-        if counts[c] == 0 {
-            c += 1;
-        } else {
-            c += 1;
-            k += 1;
-        }
-    }
-    k
+    counts.iter().filter(|n| **n != 0).count()
 }
 
 // The entries of the channel section, from place at on.
@@ -38,17 +28,14 @@ fn write_counts(dst: &mut [u8], at: usize, counts: [u16; Entry::CHANNELS])
     ensures { dst.new ≡ put dst.old at (rows channel_widths (channel_rows (λ (c : ℕ). get_or counts c 0) 63 0)) }
 {
     let widths = [1u8, 2];
-    let mut c: usize = 0;
     let mut p = at;
-    while c < Entry::CHANNELS {
+    for c in 0..Entry::CHANNELS {
         if counts[c] == 0 {
-            c += 1;
-        } else {
-            let numbers = [c as u64, counts[c] as u64];
-            sections::write_row(dst, p, &widths, &numbers);
-            c += 1;
-            p += Entry::CHANNEL;
+            continue;
         }
+        let numbers = [c as u64, counts[c] as u64];
+        sections::write_row(dst, p, &widths, &numbers);
+        p += Entry::CHANNEL;
     }
 }
 
@@ -95,28 +82,28 @@ fn write_picture(dst: &mut [u8], index: usize, p: Picture)
 }
 
 // How many entries of the image section a file has.
-fn shown(image: Image) -> usize
+fn shown(image: Option<Picture>) -> usize
     ensures { (result ≡ length (image_row 0 image)) × (result ≤ 1) }
 {
     match image {
-        Image::Absent => 0,
-        Image::There(p) => 1,
+        None => 0,
+        Some(p) => 1,
     }
 }
 
 // One entry of the image section, or none.
-fn write_image(dst: &mut [u8], index: usize, image: Image)
+fn write_image(dst: &mut [u8], index: usize, image: Option<Picture>)
     requires { length dst.old ≡ 8 }
     ensures { take (length (image_row 0 image) * 8) dst.new ≡ rows image_widths (image_row index image) }
 {
     match image {
-        Image::Absent => {}
-        Image::There(p) => write_picture(dst, index, p),
+        None => {}
+        Some(p) => write_picture(dst, index, p),
     }
 }
 
 // How many octets the catalogue will have, whose channel section began at place third. The bound is only there so that nothing wraps.
-pub fn size_with(third: usize, image: Image, counts: [u16; Entry::CHANNELS]) -> usize
+pub fn size_with(third: usize, image: Option<Picture>, counts: [u16; Entry::CHANNELS]) -> usize
     requires { third ≤ 600000 }
     ensures { result ≡ third + 16 + length (image_row 0 image) * 8 + length (channel_rows (λ (c : ℕ). get_or counts c 0) 63 0) * 3 }
 {
@@ -124,7 +111,7 @@ pub fn size_with(third: usize, image: Image, counts: [u16; Entry::CHANNELS]) -> 
 }
 
 // The image section in its new place, with the file's entry if it has one.
-fn grow_images(dst: &mut [u8], at: Places, image: Image, more: usize)
+fn grow_images(dst: &mut [u8], at: Places, image: Option<Picture>, more: usize)
     requires { (more ≡ length (image_row 0 image)) × (more ≤ 1) × (at.images ≤ 65535) × (at.second + 16 + at.images * 8 + more * 8 ≤ length dst.old) }
     ensures { dst.new ≡ put dst.old (at.second + 14) (in_octets 2 (at.images + more) ++ part (at.second + 2) (at.images * 8) dst.old ++ rows image_widths (image_row at.files image)) }
 {

@@ -1,4 +1,6 @@
 -- The runs of specs/Guards.antt give what is said there. Assumes nothing.
+use Rattle.refusals.specs.Refusals.{refuse}
+use Rattle.std.specs.Prelude.{Ok}
 use mathlib.Core.Path.{◌≡◌, refl, sym, ap, ap₂, subst, ◌∙◌}
 use mathlib.Core.Bool.{true}
 use mathlib.Core.Logic.{inl, inr}
@@ -10,8 +12,7 @@ use lib.Dec.{ltb, leb}
 use lib.ListN.{length, drop, get_or, set, replicate, length-append, length-replicate}
 use Rattle.transport.specs.declared.Transport.{Transport}
 use Rattle.transport.specs.Length.{good_length, octets_of_bits, transport_size, need, rest}
-use Rattle.records.specs.declared.HeaderAnswer.{HeaderAnswer}
-use Rattle.records.specs.Reader.{refused_header, read_header}
+use Rattle.records.specs.Reader.{read_header}
 use Rattle.records.proofs.Examples.{alone-read, one-octet}
 use Rattle.state.specs.declared.Slot.{Slot}
 use Rattle.state.specs.declared.Station.{Station}
@@ -30,7 +31,6 @@ use Rattle.judge.specs.Packets.{Starts}
 use Rattle.zone.specs.Zone.{split}
 use Rattle.zone.specs.Walk.{desk_after, gap}
 use Rattle.zone.proofs.Readings.{reading-first}
-use Rattle.station.specs.declared.Told.TheVariants.{Known}
 use Rattle.station.specs.SetUp.{channel_of, fresh_station, set_up}
 use Rattle.station.specs.Files.{freed, file_let_go}
 use Rattle.station.proofs.Fresh.{fresh-desk}
@@ -369,7 +369,7 @@ module _ (list : List ℕ) (listed : 900 ≤ length list) where
     twelve-out = out written.1 refl 864 (omega arith) refl
 
     twelve-tells : told_in (run (fresh x) (part_of_an_octet list)) 0
-        ≡ Known (record { channel = channel_of 2; application = record { 0 = 5 }; counter = 258; bits = 12 })
+        ≡ Ok (record { channel = channel_of 2; application = record { 0 = 5 }; counter = 258; bits = 12 })
     unfolding need transport_size octets_of_bits
     twelve-tells =
         let a = written.1 in
@@ -389,7 +389,7 @@ module _ (list : List ℕ) (listed : 900 ≤ length list) where
         omega (arith, from, more, size)
 
     -- a file of one octet, whose header is refused, and one that is all header
-    header-short : header_read_out x (published list) ≡ refused_header 20
+    header-short : header_read_out x (published list) ≡ refuse 20
     unfolding need transport_size octets_of_bits file_from free_from of_pair incomplete held needs flatten
     header-short =
         ap read_header
@@ -425,7 +425,7 @@ module _ (list : List ℕ) (listed : 900 ≤ length list) where
           twelve-told = twelve-tells;
           twelve-end = twelve-ends;
           header_refused = header-short;
-          header_read = ap (λ (r : HeaderAnswer). r.read) (header-good ∙ alone-read);
+          header_read = header-good ∙ alone-read;
           two-channels = strays.tells;
         }
 

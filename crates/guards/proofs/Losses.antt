@@ -1,5 +1,6 @@
 -- The runs of specs/Losses.antt give what is said there: each frame by the case of history's specs/Openings.antt that holds, and by nothing
 -- else of the station's reading. Assumes nothing.
+use Rattle.std.specs.Prelude.{Ok}
 use mathlib.Core.Path.{◌≡◌, refl, sym, ap, ap₂, subst, ◌∙◌}
 use mathlib.Core.Bool.{false≢true}
 use mathlib.Core.Logic.{◌⊎◌, inl, inr, ⊎_elim}
@@ -12,7 +13,6 @@ use lib.Seq.{drop_at}
 use Rattle.octets.specs.Number.{number, bits_at}
 use Rattle.frame.specs.declared.Accepted.{Accepted}
 use Rattle.frame.specs.declared.Channel.{Channel}
-use Rattle.frame.specs.declared.Examined.TheVariants.{Good}
 use Rattle.frame.specs.declared.Frame.{Frame}
 use Rattle.noise.proofs.Mixing.{mixed-twice}
 use Rattle.frame.specs.Header.{derandomised, frame_of}
@@ -108,7 +108,7 @@ module _ (n p : ℕ) (zone : List ℕ) (low : n < 256) (points : (p < 884) ⊎ (
 
   -- what a frame brings, by the case that holds
   module _ {w : World} {d : OnDesk} {xs : List Slot} (L : Waits w d xs) (list : List ℕ) (room : 900 ≤ length list) where
-    good : examined_in w (sent n p zone) ≡ Good (accepts n p)
+    good : examined_in w (sent n p zone) ≡ Ok (accepts n p)
     good =
         rw (L.craft, L.channels, L.watched)
         (of-header 1 (take 4 four) (sent n p zone) (sent-framed 2 n p zone (omega arith) low points size) ∙ sent-good 2 n p zone (omega arith) low points size)

@@ -1,4 +1,5 @@
 -- What a packet makes of the files of a station with seven blocks, from the files alone. Assumes nothing.
+use Rattle.std.specs.Prelude.{Some, None}
 use mathlib.Core.Path.{◌≡◌, refl, ap, ◌∙◌}
 use mathlib.Core.Bool.{true, false}
 use mathlib.Core.List.{List, [], ◌∷◌, ◌++◌}
@@ -7,14 +8,12 @@ use lib.ListN.{get_or, set}
 use Rattle.packet.specs.declared.Packet.{Packet}
 use Rattle.packet.specs.Header.{packet_of}
 use Rattle.transport.specs.declared.Transport.{Transport}
-use Rattle.transport.specs.declared.Begun.TheVariants.{Wrong, Right}
 use Rattle.transport.specs.Length.{need}
 use Rattle.transport.specs.Shape.{begun_of}
 use Rattle.state.specs.declared.Slot.{Slot}
 use Rattle.state.specs.declared.Station.{Station}
 use Rattle.state.specs.Slots.{no_file, slot_at}
 use Rattle.state.specs.Blocks.{needs, room}
-use Rattle.room.specs.declared.Found.TheVariants.{At, Nothing}
 use Rattle.room.specs.Find.{free_from, free_slot, file_from, file_of}
 use Rattle.room.specs.Move.{opened, let_go}
 use Rattle.events.specs.Event.{Event, of, at}
@@ -64,20 +63,20 @@ module _ (p d : List ℕ) (h : Packet) (head : h ≡ packet_of p) (carries : dat
 
     -- a file of the pair that is incomplete, and one that is not there
     module _ (n : ℕ) (s : Station) (e : s.slots ≡ xs) where
-      found : {k : ℕ} → file_from 0 (channel_of n) h.application xs ≡ At k → file_of s (channel_of n) h.application ≡ At k
+      found : {k : ℕ} → file_from 0 (channel_of n) h.application xs ≡ Some k → file_of s (channel_of n) h.application ≡ Some k
       unfolding file_of
       found f = rw e f
 
-      none : file_from 0 (channel_of n) h.application xs ≡ Nothing → file_of s (channel_of n) h.application ≡ Nothing
+      none : file_from 0 (channel_of n) h.application xs ≡ None → file_of s (channel_of n) h.application ≡ None
       unfolding file_of
       none f = rw e f
 
-    free : (ys : List Slot) (s : Station) → s.slots ≡ ys → {k : ℕ} → free_from 0 ys ≡ At k → free_slot s ≡ At k
+    free : (ys : List Slot) (s : Station) → s.slots ≡ ys → {k : ℕ} → free_from 0 ys ≡ Some k → free_slot s ≡ Some k
     unfolding free_slot
     free ys s e f = rw e f
 
     -- a packet that starts a file wrongly, where there is none of the pair
-    pub makes-wrong : {n : ℕ} → Starting h → begun_of h.flags d ≡ Wrong → file_from 0 (channel_of n) h.application xs ≡ Nothing
+    pub makes-wrong : {n : ℕ} → Starting h → begun_of h.flags d ≡ None → file_from 0 (channel_of n) h.application xs ≡ None
         → MakesOneOn n xs p xs (of 7 h.application.0 ∷ [])
     makes-wrong {n} st wrong f =
         record {
@@ -94,9 +93,9 @@ module _ (p d : List ℕ) (h : Packet) (head : h ≡ packet_of p) (carries : dat
         }
 
     -- a packet that starts a file
-    module _ {n : ℕ} (st : Starting h) {t : Transport} (right : begun_of h.flags d ≡ Right t) where
+    module _ {n : ℕ} (st : Starting h) {t : Transport} (right : begun_of h.flags d ≡ Some t) where
       -- with no file of the pair
-      module _ (f : file_from 0 (channel_of n) h.application xs ≡ Nothing) {k : ℕ} (q : free_from 0 xs ≡ At k) where
+      module _ (f : file_from 0 (channel_of n) h.application xs ≡ None) {k : ℕ} (q : free_from 0 xs ≡ Some k) where
         pub makes-open : need t.bits ≤ 7 - needs xs → MakesOneOn n xs p (set xs k (first_slot (channel_of n) h t)) (open_events h k)
         unfolding opened
         makes-open l =
@@ -132,7 +131,7 @@ module _ (p d : List ℕ) (h : Packet) (head : h ≡ packet_of p) (carries : dat
             }
 
       -- with an incomplete one in slot j, which is abandoned
-      module _ {j : ℕ} (f : file_from 0 (channel_of n) h.application xs ≡ At j) {k : ℕ} (q : free_from 0 (set xs j no_file) ≡ At k) where
+      module _ {j : ℕ} (f : file_from 0 (channel_of n) h.application xs ≡ Some j) {k : ℕ} (q : free_from 0 (set xs j no_file) ≡ Some k) where
         pub makes-over : need t.bits ≤ 7 - needs (set xs j no_file)
             → MakesOneOn n xs p (set (set xs j no_file) k (first_slot (channel_of n) h t)) (at 6 h.application.0 j ∷ open_events h k)
         unfolding opened let_go
@@ -156,7 +155,7 @@ module _ (p d : List ℕ) (h : Packet) (head : h ≡ packet_of p) (carries : dat
     -- a later packet
     module _ {n : ℕ} (la : Starting h → ⊥) where
       -- of no file
-      pub makes-stray : file_from 0 (channel_of n) h.application xs ≡ Nothing → MakesOneOn n xs p xs (of 5 h.application.0 ∷ [])
+      pub makes-stray : file_from 0 (channel_of n) h.application xs ≡ None → MakesOneOn n xs p xs (of 5 h.application.0 ∷ [])
       makes-stray f =
           record {
             from =
@@ -165,7 +164,7 @@ module _ (p d : List ℕ) (h : Packet) (head : h ≡ packet_of p) (carries : dat
           }
 
       -- of a file that is there
-      module _ {k : ℕ} (f : file_from 0 (channel_of n) h.application xs ≡ At k) where
+      module _ {k : ℕ} (f : file_from 0 (channel_of n) h.application xs ≡ Some k) where
         pub makes-more : goes_on (get_or xs k no_file) h d ≡ true
             → MakesOneOn n xs p (set xs k (next_slot (get_or xs k no_file) h)) (at (next_kind h) h.application.0 k ∷ [])
         makes-more g =

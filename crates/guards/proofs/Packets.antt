@@ -1,4 +1,5 @@
 -- The packets of the runs that can be written down: how they are read, what they carry, and what they make of the files. Assumes nothing.
+use Rattle.std.specs.Prelude.{Some, None}
 use mathlib.Core.Path.{◌≡◌, refl, sym, ap, subst, ◌∙◌}
 use mathlib.Core.Bool.{true, and-false}
 use mathlib.Core.Logic.{◌⊎◌, inl, inr, ⊎_elim}
@@ -18,14 +19,12 @@ use Rattle.packet.specs.declared.Packet.{Packet}
 use Rattle.packet.specs.declared.Look.TheVariants.{Short, Good}
 use Rattle.packet.specs.Header.{packet_of, size_of, bad, look_of}
 use Rattle.packet.proofs.Looks.{look-good, look-same}
-use Rattle.transport.specs.declared.Begun.TheVariants.{Right}
 use Rattle.transport.specs.declared.Transport.{Transport}
 use Rattle.transport.specs.Length.{transport_of, good_length, octets_of_bits, transport_size, need, rest}
 use Rattle.transport.specs.Shape.{whole_fits, begun_of}
 use Rattle.state.specs.declared.Slot.{Slot}
 use Rattle.state.specs.Slots.{no_file, held, incomplete, of_pair}
 use Rattle.state.specs.Blocks.{needs}
-use Rattle.room.specs.declared.Found.TheVariants.{At, Nothing}
 use Rattle.room.specs.Find.{free_from, file_from}
 use Rattle.events.specs.Event.{Event, of, at}
 use Rattle.judge.specs.Judge.{data_of, check_of, goes_on}
@@ -161,7 +160,7 @@ module _ (L : ℕ) (small : L < 0x1000000) where
       let e : L ≡ number_at (long (ten L)) 2 8 = omega arith in
       λ i. record { counter = 0; bits = e i }
 
-  begins-right : good_length L ≡ true → 2 ≤ need L → begun_of 1 (long (ten L)) ≡ Right (bits L)
+  begins-right : good_length L ≡ true → 2 ≤ need L → begun_of 1 (long (ten L)) ≡ Some (bits L)
   begins-right good two =
       let size = long-size (ten L) (omega arith) in
       right-begun 1 (long (ten L))
@@ -184,7 +183,7 @@ module _ (a L : ℕ) (low : a < 256) (small : L < 0x1000000) where
 
   -- with the files xs
   module _ (good : good_length L ≡ true) (two : 2 ≤ need L) {c : ℕ} (xs : List Slot)
-      (none : file_from 0 (channel_of c) (record { 0 = a }) xs ≡ Nothing) {k : ℕ} (free : free_from 0 xs ≡ At k) where
+      (none : file_from 0 (channel_of c) (record { 0 = a }) xs ≡ None) {k : ℕ} (free : free_from 0 xs ≡ Some k) where
     pub first-opens : need L ≤ 7 - needs xs → MakesOneOn c xs (first a L) (set xs k (file_on c a L 0)) (at 10 a k ∷ [])
     first-opens l =
         makes-open (first a L) (long (ten L)) (head_of a 1 0 8191) first_head first-data xs first-intact (inl refl) (begins-right L small good two)
@@ -218,7 +217,7 @@ module _ (f a m : ℕ) (fs : (f ≡ 0) ⊎ (f ≡ 2)) (low : a < 256) (ms : m < 
   tiny-later = ⊎_elim (λ e. ⊎_elim (λ d. omega arith) (λ d. omega arith) fs) (λ e. ⊎_elim (λ d. omega arith) (λ d. omega arith) fs)
 
   -- of no file
-  pub tiny-stray : {c : ℕ} (xs : List Slot) → file_from 0 (channel_of c) (record { 0 = a }) xs ≡ Nothing
+  pub tiny-stray : {c : ℕ} (xs : List Slot) → file_from 0 (channel_of c) (record { 0 = a }) xs ≡ None
       → MakesOneOn c xs (tiny f a m) xs (of 5 a ∷ [])
   tiny-stray xs none = makes-stray (tiny f a m) (0xff ∷ []) (head_of a f m 2) tiny-head refl xs tiny-intact tiny-later none
 
@@ -229,7 +228,7 @@ module _ (f a m : ℕ) (fs : (f ≡ 0) ⊎ (f ≡ 2)) (low : a < 256) (ms : m < 
 
 -- a later packet of the file in slot 0, of which the packets up to count n are accepted
 module _ (a L n : ℕ) (low : a < 256) (few : n < 254) (more : n + 1 < need L) (zs : List Slot) where
-  there : file_from 0 (channel_of 2) (record { 0 = a }) (file_at a L n ∷ zs) ≡ At 0
+  there : file_from 0 (channel_of 2) (record { 0 = a }) (file_at a L n ∷ zs) ≡ Some 0
   unfolding file_from of_pair incomplete held
   there = rw (eq-eqb a a refl, ne_eqb (n + 1) 0 (λ e. omega arith), ne_eqb (n + 1) (need L) (λ e. omega arith))
 
@@ -320,7 +319,7 @@ module _ (a : ℕ) (low : a < 256) where
   unfolding crc_of crc_from octet shifted bit number number_at
   whole-intact = record { file = rw (← whole-head) (omega arith); intact = refl }
 
-  pub whole-right : begun_of 3 (part 6 11 (whole_of a)) ≡ Right (bits 8)
+  pub whole-right : begun_of 3 (part 6 11 (whole_of a)) ≡ Some (bits 8)
   unfolding number number_at begun_of transport_of good_length whole_fits need transport_size octets_of_bits
   whole-right = refl
 
@@ -328,13 +327,13 @@ module _ (a : ℕ) (low : a < 256) where
   whole-starts = record { undamaged = whole-intact; starting = rw (← whole-head) (inr refl); right = rw (← whole-head) whole-right }
 
   module _ {c : ℕ} (xs : List Slot) where
-    pub whole-opens : file_from 0 (channel_of c) (record { 0 = a }) xs ≡ Nothing → {k : ℕ} → free_from 0 xs ≡ At k → need 8 ≤ 7 - needs xs
+    pub whole-opens : file_from 0 (channel_of c) (record { 0 = a }) xs ≡ None → {k : ℕ} → free_from 0 xs ≡ Some k → need 8 ≤ 7 - needs xs
         → MakesOneOn c xs (whole_of a) (set xs k (file_on c a 8 0)) (at 10 a k ∷ at 12 a k ∷ [])
     whole-opens none free fits =
         makes-open (whole_of a) (part 6 11 (whole_of a)) (head_of a 3 0 12) whole-head refl xs whole-intact (inr refl) whole-right none free fits
 
     -- where the file in slot j is abandoned
-    pub whole-over : (j : ℕ) → file_from 0 (channel_of c) (record { 0 = a }) xs ≡ At j → {k : ℕ} → free_from 0 (set xs j no_file) ≡ At k
+    pub whole-over : (j : ℕ) → file_from 0 (channel_of c) (record { 0 = a }) xs ≡ Some j → {k : ℕ} → free_from 0 (set xs j no_file) ≡ Some k
         → need 8 ≤ 7 - needs (set xs j no_file)
         → MakesOneOn c xs (whole_of a) (set (set xs j no_file) k (file_on c a 8 0)) (at 6 a j ∷ at 10 a k ∷ at 12 a k ∷ [])
     whole-over j here free fits =
@@ -348,7 +347,7 @@ pub record Alone (p : List ℕ) (m L l : ℕ) : Type 0 where
   pub cuts : (n : ℕ) → 9 ≤ n → n ≤ 884 → split (p ++ fill n) ≡ cut (p ∷ fill n ∷ []) []
 
 -- one with the header of length l, behind which stands xs
-alone : (l : ℕ) → 2 ≤ l → l ≤ 8191 → (xs : List ℕ) → let p = six_of 0 5 3 0 l ++ xs in (m L : ℕ) → begun_of 3 (data_of p) ≡ Right (numbered m L)
+alone : (l : ℕ) → 2 ≤ l → l ≤ 8191 → (xs : List ℕ) → let p = six_of 0 5 3 0 l ++ xs in (m L : ℕ) → begun_of 3 (data_of p) ≡ Some (numbered m L)
     → need L ≤ 7 → eqb (crc_of (data_of p)) (check_of p) ≡ true → length p ≡ 7 + l → Alone p m L l
 unfolding file_from free_from of_pair incomplete held needs
 alone l two ls xs m L right fits check size =
@@ -398,7 +397,7 @@ module _ {c : ℕ} (xs : List Slot) where
       (sym (header_is 7 0xe0 2016 3 0 3 (omega arith) (omega arith) (omega arith) (omega arith) (omega arith) (omega arith) (omega arith) (drop 6 reserved)))
       refl xs (omega arith) (omega arith)
 
-  pub ill-makes : file_from 0 (channel_of c) (record { 0 = 5 }) xs ≡ Nothing → MakesOneOn c xs (tiny 1 5 0) xs (of 7 5 ∷ [])
+  pub ill-makes : file_from 0 (channel_of c) (record { 0 = 5 }) xs ≡ None → MakesOneOn c xs (tiny 1 5 0) xs (of 7 5 ∷ [])
   unfolding crc_of crc_from octet shifted bit number_at number begun_of
   ill-makes none =
       let head : head_of 5 1 0 2 ≡ packet_of (tiny 1 5 0) =

@@ -1,5 +1,6 @@
 -- A file that came in one whole packet, read out: what a read gives is what the packet carried, and what is told of it what it says. Assumes
 -- nothing.
+use Rattle.std.specs.Prelude.{Ok}
 use mathlib.Core.Path.{◌≡◌, refl, sym, ap, ap₂, ◌∙◌}
 use mathlib.Core.Bool.{true, false, and-false}
 use mathlib.Core.Logic.{inl}
@@ -23,7 +24,6 @@ use Rattle.zone.specs.Zone.{split}
 use Rattle.zone.specs.Walk.{desk_after}
 use Rattle.zone.proofs.Readings.{reading-first}
 use Rattle.station.specs.SetUp.{channel_of}
-use Rattle.station.specs.declared.Told.TheVariants.{Known}
 use Rattle.history.specs.Run.{Call, run, Start, fresh}
 use Rattle.history.specs.Run.Call.{frame}
 use Rattle.history.specs.Things.{Thing, did_all, things, all_things}
@@ -126,10 +126,10 @@ module _ (x : Start) (m L l n : ℕ) (p list : List ℕ) (listed : 900 ≤ lengt
       ∙ ap carried (pages-came x calls 0 (omega arith) (file_at 5 L 0) came ∙ page)
 
   pub facts-told : told_in (run (fresh x) (frame (sent 0 0 (p ++ fill n)) list ∷ [])) 0
-      ≡ Known (record { channel = channel_of 2; application = record { 0 = 5 }; counter = m; bits = L })
+      ≡ Ok (record { channel = channel_of 2; application = record { 0 = 5 }; counter = m; bits = L })
   unfolding calls came complete held
   facts-told =
       let is : numbered m L ≡ transport_of (data_of p) = (begun-right (packet_of p).flags (data_of p) starts.right).is in
       facts-came x calls 0 (omega arith) (file_at 5 L 0) came (rw one)
-      ∙ ap₂ (λ (h : Packet) (t : Transport). Known (record { channel = channel_of 2; application = h.application; counter = t.counter; bits = t.bits }))
+      ∙ ap₂ (λ (h : Packet) (t : Transport). Ok (record { channel = channel_of 2; application = h.application; counter = t.counter; bits = t.bits }))
       (sym head) (sym is)

@@ -1,6 +1,6 @@
 -- What frames that are sent bring, as they come: the packet that is carried from zone to zone, and what is whole at its end. Assumes
 -- nothing.
-use Rattle.std.specs.Prelude.{if◌then◌else◌}
+use Rattle.std.specs.Prelude.{if◌then◌else◌, Some, Ok}
 use mathlib.Core.Path.{◌≡◌, refl, sym, ap, ap₂, subst, ◌∙◌}
 use mathlib.Core.Bool.{true, false}
 use mathlib.Core.Logic.{◌⊎◌, inl, inr, ⊎_elim}
@@ -17,10 +17,8 @@ use Rattle.octets.proofs.Lists.{if-cases, part-add}
 use Rattle.noise.proofs.Mixing.{length-mixed, mixed-twice}
 use Rattle.frame.specs.declared.Accepted.{Accepted}
 use Rattle.frame.specs.declared.Channel.{Channel}
-use Rattle.frame.specs.declared.Examined.TheVariants.{Good}
 use Rattle.frame.specs.declared.Frame.{Frame}
 use Rattle.frame.specs.declared.Pointer.TheVariants as pointer
-use Rattle.frame.specs.declared.Watch.TheVariants as watch
 use Rattle.frame.specs.Kinds.{counter_follows, desk_of, desk_from}
 use Rattle.frame.specs.Header.{starts_with, derandomised, frame_of, zone_of, pointer_meaning}
 use Rattle.frame.specs.Refusals.{sized_and_marked, examined_header}
@@ -65,7 +63,7 @@ four-at (suc (suc zero)) l = refl
 four-at (suc (suc (suc zero))) l = refl
 four-at (suc (suc (suc (suc c)))) l = absurd (omega arith)
 
-four-desk : (c : ℕ) → c < 4 → desk_of (take 4 four) (channel_of c) ≡ watch.Desk c
+four-desk : (c : ℕ) → c < 4 → desk_of (take 4 four) (channel_of c) ≡ Some c
 unfolding desk_of desk_from
 four-desk zero l = refl
 four-desk (suc zero) l = refl
@@ -127,7 +125,7 @@ module _ (c n p : ℕ) (zone : List ℕ) (watched : c < 4) (low : n < 256) (poin
     unfolding zone_of
     zone-sent = ap zone_of sent-plain ∙ take_at zone (replicate 128 0) 884 size
 
-    pub sent-good : examined_header 1 (take 4 four) (frame_of (derandomised (sent_on c n p zone))) ≡ Good (accepts_on c n p)
+    pub sent-good : examined_header 1 (take 4 four) (frame_of (derandomised (sent_on c n p zone))) ≡ Ok (accepts_on c n p)
     sent-good =
         ap (λ (xs : List ℕ). examined_header 1 (take 4 four) (frame_of xs)) sent-plain ∙ ap (examined_header 1 (take 4 four)) header-sent
         ∙ accepted 1 (take 4 four) (headed c n p) (accepts_on c n p)
@@ -186,7 +184,7 @@ module _ {c : ℕ} {w : World} {n : ℕ} {octets : List ℕ} {xs : List Slot} (L
   here : Call
   here = frame (sent_on c n p zone) list
 
-  good : examined_in w (sent_on c n p zone) ≡ Good (accepts_on c n p)
+  good : examined_in w (sent_on c n p zone) ≡ Ok (accepts_on c n p)
   good =
       rw (L.craft, L.channels, L.watched)
       (of-header 1 (take 4 four) (sent_on c n p zone) (sent-framed c n p zone L.named low points size) ∙ sent-good c n p zone L.named low points size)
@@ -241,7 +239,7 @@ module _ {c : ℕ} {w : World} {n : ℕ} {octets : List ℕ} {xs : List Slot} (L
       brings-packets =
           let in_order : Channel → Split → List Thing =
           λ ch sp. map (packet ch) sp.packets ++ (left c (desk_after (accepts_on c n p) (length sp.left)) ∷ []) in
-          things-taken w takes ∙ ap (λ (a : Accepted). framed_things w (sent_on c n p zone) (Good a)) same
+          things-taken w takes ∙ ap (λ (a : Accepted). framed_things w (sent_on c n p zone) (Ok a)) same
           ∙ ap₂ in_order its-channel (ap (λ (r : Reading). split r.octets) read_here ∙ cuts)
 
       tells : said w here ≡ (judged_all (channel_of c) w.station w.store ps).events

@@ -1,19 +1,15 @@
 -- Runs of real frames that meet the premises of the demands, so that none of these is empty: what each of them gives, to the last event.
 -- Assumes nothing.
-use Rattle.std.specs.Prelude.{◌≡◌, true, false, List, [], ◌∷◌, ◌++◌, ℕ, ◌+◌, ◌≤◌, length}
+use Rattle.refusals.specs.Refusals.{refuse}
+use Rattle.refusals.specs.declared.Refusal.{Refusal}
+use Rattle.records.specs.declared.Header.{Header}
+use Rattle.std.specs.Prelude.{◌≡◌, true, false, List, [], ◌∷◌, ◌++◌, ℕ, ◌+◌, ◌≤◌, length, None, Ok, Result}
 use Rattle.octets.specs.Number.{Octets}
-use Rattle.records.specs.declared.HeaderAnswer.{HeaderAnswer}
-use Rattle.records.specs.declared.HeaderRead.TheVariants.{Read}
-use Rattle.records.specs.declared.ImageStructure.TheVariants as image
-use Rattle.records.specs.declared.ImageNavigation.TheVariants as navigation
-use Rattle.records.specs.declared.TimeStamp.TheVariants as time
-use Rattle.records.specs.declared.ImageSegment.TheVariants as segment
-use Rattle.records.specs.Reader.{refused_header, read_header}
+use Rattle.records.specs.Reader.{read_header}
 use Rattle.state.specs.Slots.{slot_at, complete}
 use Rattle.transport.specs.declared.Transport.{Transport}
 use Rattle.events.specs.Event.{of, at}
 use Rattle.judge.specs.Packets.{Starts}
-use Rattle.station.specs.declared.Told.TheVariants.{Known}
 use Rattle.history.specs.Run.{Call, answer, run, Start, fresh}
 use Rattle.history.specs.Run.Call.{frame, read, let-go}
 use Rattle.history.specs.Calls.{result_of, reported, told_in}
@@ -105,7 +101,7 @@ part_of_an_octet list = frame (sent 0 0 (twelve_bits ++ fill 864)) list ∷ []
 abbrev pub read_out : Start → List Call → List ℕ
 read_out x cs = result_of (run (fresh x) cs) (whole_read (run (fresh x) cs) 0)
 
-abbrev pub header_read_out : Start → List Call → HeaderAnswer
+abbrev pub header_read_out : Start → List Call → Result Header Refusal
 header_read_out x cs = read_header (read_out x cs)
 
 -- what these runs give, from any set-up of the program and with any list of the size that is asked for
@@ -131,15 +127,15 @@ pub record Runs (x : Start) (list : List ℕ) : Type 0 where
   -- its channel, its application, its counter and L (02, 5/14)
   pub twelve-told :
       told_in (run (fresh x) (part_of_an_octet list)) 0
-      ≡ Known (record { channel = record { 0 = 2 }; application = record { 0 = 5 }; counter = 258; bits = 12 })
+      ≡ Ok (record { channel = record { 0 = 2 }; application = record { 0 = 5 }; counter = 258; bits = 12 })
   -- "read passes the file's end": no read of more, or from behind it, is answered by 0
   pub twelve-end :
       (offset : ℕ) (buffer : List ℕ) → answer (run (fresh x) (part_of_an_octet list)) (read 0 offset buffer) ≡ 0 → offset + length buffer ≤ 2
   -- "20: header: fewer than 16 octets": the published file has one
-  pub header_refused : header_read_out x (published list) ≡ refused_header 20
+  pub header_refused : header_read_out x (published list) ≡ refuse 20
   pub header_read :
-      (header_read_out x (good_header list)).read
-      ≡ Read (record { primary = record { filetype = 2; length = 16; bits = 0 }; image = image.Absent; navigation = navigation.Absent; time = time.Absent; segment = segment.Absent })
+      header_read_out x (good_header list)
+      ≡ Ok (record { primary = record { filetype = 2; length = 16; bits = 0 }; image = None; navigation = None; time = None; segment = None })
 
 pub record Guards : Type 0 where
   -- there is such a set-up

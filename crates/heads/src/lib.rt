@@ -18,17 +18,10 @@ fn pointer_answer(pointer: u16, out: &mut [u8], at: usize) -> usize
     ensures { (result ≤ at + 45) × Written out.old at (spaced pointer ++ meaning_text (pointer_meaning pointer)) out.new result }
 {
     let end = text::number(pointer as u64, out, at);
-    let m = frame::meaning(pointer);
-    match m {
-        Pointer::Offset(offset) => {
-            return text::with_number(b" at", offset as u64, out, end);
-        }
-        Pointer::NoStart => {
-            return text::word(b" none", out, end);
-        }
-        Pointer::Refused => {
-            return text::word(b" refused", out, end);
-        }
+    match frame::meaning(pointer) {
+        Pointer::Offset(offset) => text::with_number(b" at", offset as u64, out, end),
+        Pointer::NoStart => text::word(b" none", out, end),
+        Pointer::Refused => text::word(b" refused", out, end),
     }
 }
 
@@ -53,15 +46,9 @@ fn kind_answer(k: Kind, out: &mut [u8], at: usize) -> usize
     ensures { (result ≤ at + 6) × Written out.old at (kind_text k) out.new result }
 {
     match k {
-        Kind::File => {
-            return text::word(b" file", out, at);
-        }
-        Kind::Other => {
-            return text::word(b" other", out, at);
-        }
-        Kind::Fill => {
-            return text::word(b" fill", out, at);
-        }
+        Kind::File => text::word(b" file", out, at),
+        Kind::Other => text::word(b" other", out, at),
+        Kind::Fill => text::word(b" fill", out, at),
     }
 }
 
@@ -69,9 +56,8 @@ fn good_packet_answer(p: Packet, out: &mut [u8]) -> usize
     requires { length out.old ≡ 2051 }
     ensures { (result ≤ 2050) × Written out.old 0 (packet_text (Look.Good p)) out.new result }
 {
-    let application = p.application;
-    let first = text::with_number(b"P good", application.0 as u64, out, 0);
-    let second = kind_answer(application.kind(), out, first);
+    let first = text::with_number(b"P good", p.application.0 as u64, out, 0);
+    let second = kind_answer(p.application.kind(), out, first);
     text::numbers(
         p.flags as u64,
         p.count.0 as u64,
@@ -86,14 +72,8 @@ pub fn packet_answer(l: Look, out: &mut [u8]) -> usize
     ensures { (result ≤ 2050) × Written out.old 0 (packet_text l) out.new result }
 {
     match l {
-        Look::Short => {
-            return text::word(b"P short", out, 0);
-        }
-        Look::Bad => {
-            return text::word(b"P bad", out, 0);
-        }
-        Look::Good(p) => {
-            return good_packet_answer(p, out);
-        }
+        Look::Short => text::word(b"P short", out, 0),
+        Look::Bad => text::word(b"P bad", out, 0),
+        Look::Good(p) => good_packet_answer(p, out),
     }
 }

@@ -1,4 +1,5 @@
 -- The store's blocks and the files that hold them, on every world that a run reaches; and how a file leaves its slot. Assumes nothing.
+use Rattle.std.specs.Prelude.{Ok}
 use mathlib.Core.Path.{◌≡◌, refl, sym, ap, subst, ◌∙◌}
 use mathlib.Core.Bool.{Bool, true, false}
 use mathlib.Core.Logic.{inl, inr, ⊎_elim}
@@ -13,7 +14,6 @@ use Rattle.octets.specs.Buffer.{put}
 use Rattle.octets.proofs.Lists.{if-true, if-false}
 use Rattle.octets.proofs.Decide.{exactly}
 use Rattle.frame.specs.declared.Channel.{Channel}
-use Rattle.frame.specs.declared.Examined.TheVariants.{Good}
 use Rattle.frame.specs.Header.{derandomised, zone_of}
 use Rattle.state.specs.declared.Desk.{Desk}
 use Rattle.state.specs.declared.Station.{Station}
@@ -67,7 +67,7 @@ blocks-right x cs =
 
 -- the events of a frame are in its list
 module _ (w : World) {f list : List ℕ} (t : Taken w f list) where
-  pub said-taken : said w (frame f list) ≡ framed_events w f (Good t.frame)
+  pub said-taken : said w (frame f list) ≡ framed_events w f (Ok t.frame)
   unfolding said
   said-taken = if-true (framed_events w f (examined_in w f)) [] (eq-eqb (answer w (frame f list)) 0 (taken-zero w t)) ∙ ap (framed_events w f) t.good
 

@@ -1,5 +1,5 @@
 -- Which event exactly when: the reasons of judge's law (`given-exactly`), at every moment of a run, in the words of the paper. Assumes nothing.
-use Rattle.std.specs.Prelude.{if◌then◌else◌}
+use Rattle.std.specs.Prelude.{if◌then◌else◌, Option, Some, None}
 use mathlib.Core.Path.{◌≡◌, refl, sym, ap, subst, ◌∙◌}
 use mathlib.Core.Bool.{Bool, true, false, true≢false}
 use mathlib.Core.Logic.{◌↔◌, inl, inr, ⊎_elim}
@@ -16,8 +16,6 @@ use Rattle.frame.specs.declared.Channel.{Channel}
 use Rattle.packet.specs.declared.Packet.{Packet}
 use Rattle.packet.specs.Header.{packet_of}
 use Rattle.packet.proofs.Looks.{look-good}
-use Rattle.transport.specs.declared.Begun.{Begun}
-use Rattle.transport.specs.declared.Begun.TheVariants.{Wrong, Right}
 use Rattle.transport.specs.declared.Transport.{Transport}
 use Rattle.transport.specs.Length.{transport_of, need}
 use Rattle.transport.specs.Shape.{begun_of}
@@ -25,8 +23,6 @@ use Rattle.transport.proofs.Length.{length-plainly, size-sum, need-covers}
 use Rattle.state.specs.declared.Station.{Station}
 use Rattle.state.specs.Slots.{slot_at, held}
 use Rattle.state.specs.Blocks.{room}
-use Rattle.room.specs.declared.Found.{Found}
-use Rattle.room.specs.declared.Found.TheVariants.{At, Nothing}
 use Rattle.room.specs.Find.{free_slot, file_of}
 use Rattle.room.specs.Move.{let_go}
 use Rattle.room.proofs.Find.{free-at, free-nowhere, file-at, file-only, same-pair, pair_same}
@@ -50,7 +46,7 @@ use Rattle.history.proofs.Blocks.{moment-packet}
 use Rattle.history.proofs.Room.{unless, never, room-cleared, cleared-sized}
 use Rattle.history.proofs.Turns.{none-held}
 
-same-slot : {j k : ℕ} → At j ≡ At k → j ≡ k
+same-slot : {j k : ℕ} → Some j ≡ Some k → j ≡ k
 same-slot e = cc
 
 -- what the packet alone says
@@ -72,7 +68,7 @@ module _ (p : List ℕ) where
       let some : bits_in p ≡ 0 → ⊥ = told-true (length-plainly (bits_in p)) r.good in
       record { undamaged = g.undamaged; begun = record { ten = r.long; some = omega (arith, some); shape = shape } }
 
-  well-right : WellBegun p → begun_of (packet_of p).flags (data_of p) ≡ Right (transport_of (data_of p))
+  well-right : WellBegun p → begun_of (packet_of p).flags (data_of p) ≡ Some (transport_of (data_of p))
   well-right w =
       right-begun (packet_of p).flags (data_of p)
       (record {
@@ -87,18 +83,18 @@ module _ (p : List ℕ) where
   asks-starts : Asks p → Starts p (transport_of (data_of p))
   asks-starts a = record { undamaged = a.undamaged; starting = asks-starting a; right = well-right a.begun }
 
-  ill : begun_of (packet_of p).flags (data_of p) ≡ Wrong → WellBegun p → ⊥
+  ill : begun_of (packet_of p).flags (data_of p) ≡ None → WellBegun p → ⊥
   ill e w =
-      let right : begun_of (packet_of p).flags (data_of p) ≡ Right (transport_of (data_of p)) = well-right w in
+      let right : begun_of (packet_of p).flags (data_of p) ≡ Some (transport_of (data_of p)) = well-right w in
       let z : ◌≡◌ {A = ℕ} 0 1 = cc in
       omega arith
 
-  wrong : Undamaged p → Starting (packet_of p) → (WellBegun p → ⊥) → begun_of (packet_of p).flags (data_of p) ≡ Wrong
+  wrong : Undamaged p → Starting (packet_of p) → (WellBegun p → ⊥) → begun_of (packet_of p).flags (data_of p) ≡ None
   wrong u st n = by (begun_of (packet_of p).flags (data_of p)) refl
     where
-      by : (b : Begun) → begun_of (packet_of p).flags (data_of p) ≡ b → begun_of (packet_of p).flags (data_of p) ≡ Wrong
-      by Wrong e = e
-      by (Right t) e = absurd (n (starts-asks {t = t} (record { undamaged = u; starting = st; right = e })).begun)
+      by : (b : Option Transport) → begun_of (packet_of p).flags (data_of p) ≡ b → begun_of (packet_of p).flags (data_of p) ≡ None
+      by None e = e
+      by (Some t) e = absurd (n (starts-asks {t = t} (record { undamaged = u; starting = st; right = e })).begun)
 
   module _ (w : Whole p) where
     is_later : (Starting (packet_of p) → ⊥) → Later (packet_of p)
@@ -124,30 +120,30 @@ module _ (p : List ℕ) where
 
 -- what the state says of the pair and of the slots
 module _ {s : Station} {store : List ℕ} (h : Settled s store) (c : Channel) (p : List ℕ) where
-  pair_found : {k : ℕ} → OfPair s c p k → file_of s c (packet_of p).application ≡ At k
+  pair_found : {k : ℕ} → OfPair s c p k → file_of s c (packet_of p).application ≡ Some k
   pair_found {k} o =
       file-only s c (packet_of p).application h.sized h.sound k o.low o.incomplete
       (pair_same c (packet_of p).application (slot_at s k) o.channel o.application)
 
-  found-pair : {k : ℕ} → file_of s c (packet_of p).application ≡ At k → OfPair s c p k
+  found-pair : {k : ℕ} → file_of s c (packet_of p).application ≡ Some k → OfPair s c p k
   found-pair {k} e =
       let f = file-at s c (packet_of p).application k e in
       let (channel, application) = same-pair c (packet_of p).application (slot_at s k) f.pair in
       record { low = omega (arith, f.low, h.sized.slots); incomplete = f.incomplete; channel = channel; application = application }
 
-  found_none : file_of s c (packet_of p).application ≡ Nothing → (k : ℕ) → OfPair s c p k → ⊥
+  found_none : file_of s c (packet_of p).application ≡ None → (k : ℕ) → OfPair s c p k → ⊥
   found_none e k o = never (sym (pair_found o) ∙ e)
 
-  none_found : ((k : ℕ) → OfPair s c p k → ⊥) → file_of s c (packet_of p).application ≡ Nothing
+  none_found : ((k : ℕ) → OfPair s c p k → ⊥) → file_of s c (packet_of p).application ≡ None
   none_found n = unless (file_of s c (packet_of p).application) refl (λ k e. n k (found-pair e))
 
   -- a slot of the state that is asked is not held exactly if it is free for the packet
   free-for : (j : ℕ) → j < 32 → (held (slot_at (cleared c s p) j) ≡ false) ↔ FreeFor s c p j
   free-for j low = by (file_of s c (packet_of p).application) refl
     where
-      by : (f : Found) → file_of s c (packet_of p).application ≡ f → (held (slot_at (rid s f) j) ≡ false) ↔ FreeFor s c p j
-      by Nothing e = (inl, ⊎_elim (λ q. q) (λ o. absurd (found_none e j o)))
-      by (At k) e =
+      by : (f : Option ℕ) → file_of s c (packet_of p).application ≡ f → (held (slot_at (rid s f) j) ≡ false) ↔ FreeFor s c p j
+      by None e = (inl, ⊎_elim (λ q. q) (λ o. absurd (found_none e j o)))
+      by (Some k) e =
           let r = let_go-refiles s k in
           elim (ℕ_discrete j k) [
             | yes q ↦ (
@@ -160,7 +156,7 @@ module _ {s : Station} {store : List ℕ} (h : Settled s store) (c : Channel) (p
             )
           ]
 
-  lowest : {k : ℕ} → free_slot (cleared c s p) ≡ At k → LowestFree s c p k
+  lowest : {k : ℕ} → free_slot (cleared c s p) ≡ Some k → LowestFree s c p k
   lowest {k} e =
       let f = free-at (cleared c s p) k e in
       let low : k < 32 = omega (arith, f.low, (cleared-sized h.sized h.sound c p).slots) in
@@ -170,27 +166,27 @@ module _ {s : Station} {store : List ℕ} (h : Settled s store) (c : Channel) (p
         before = λ j l q. true≢false (sym (f.before j l) ∙ (free-for j (omega arith)).1 q);
       }
 
-  slots : (j : ℕ) → free_slot (cleared c s p) ≡ Nothing → j < 32 → FreeFor s c p j → ⊥
+  slots : (j : ℕ) → free_slot (cleared c s p) ≡ None → j < 32 → FreeFor s c p j → ⊥
   slots j e low q =
       true≢false
       (sym (free-nowhere (cleared c s p) e j (omega (arith, (cleared-sized h.sized h.sound c p).slots))) ∙ (free-for j low).1 q)
 
-  lowest-at : {k : ℕ} → LowestFree s c p k → free_slot (cleared c s p) ≡ At k
+  lowest-at : {k : ℕ} → LowestFree s c p k → free_slot (cleared c s p) ≡ Some k
   lowest-at {k} l = by (free_slot (cleared c s p)) refl
     where
-      by : (f : Found) → free_slot (cleared c s p) ≡ f → free_slot (cleared c s p) ≡ At k
-      by Nothing e = absurd (slots k e l.low l.free)
-      by (At j) e =
+      by : (f : Option ℕ) → free_slot (cleared c s p) ≡ f → free_slot (cleared c s p) ≡ Some k
+      by None e = absurd (slots k e l.low l.free)
+      by (Some j) e =
           let m = lowest e in
           elim (dec_lt j k) [
             | yes a ↦ absurd (l.before j a m.free)
             | no a ↦ elim (dec_lt k j) [
               | yes b ↦ absurd (m.before k b l.free)
-              | no b ↦ e ∙ ap At (omega arith)
+              | no b ↦ e ∙ ap Some (omega arith)
             ]
           ]
 
-  no-lowest : ((k : ℕ) → k < 32 → FreeFor s c p k → ⊥) → free_slot (cleared c s p) ≡ Nothing
+  no-lowest : ((k : ℕ) → k < 32 → FreeFor s c p k → ⊥) → free_slot (cleared c s p) ≡ None
   no-lowest n =
       unless (free_slot (cleared c s p)) refl
       (λ k e.
@@ -199,7 +195,7 @@ module _ {s : Station} {store : List ℕ} (h : Settled s store) (c : Channel) (p
 
   -- the reasons of judge's law in the words of the table
   module _ (w : Whole p) where
-    finds : {t : Transport} {k : ℕ} → Starts p t → free_slot (cleared c s p) ≡ At k → need t.bits ≤ room (cleared c s p) → Finds s c p k
+    finds : {t : Transport} {k : ℕ} → Starts p t → free_slot (cleared c s p) ≡ Some k → need t.bits ≤ room (cleared c s p) → Finds s c p k
     finds g f l =
         record {
           asks = starts-asks p g;

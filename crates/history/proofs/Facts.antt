@@ -1,4 +1,7 @@
 -- What is told of a complete file is what its first packet says, and of no other file anything is told. Assumes nothing.
+use Rattle.refusals.specs.declared.Refusal.{Refusal}
+use Rattle.refusals.specs.Refusals.{refuse}
+use Rattle.std.specs.Prelude.{Result, Ok, Err}
 use mathlib.Core.Path.{◌≡◌, refl, sym, ap, ◌∙◌}
 use mathlib.Core.Bool.{Bool, true, false, true≢false}
 use mathlib.Core.Logic.{◌⊎◌, inl, inr, ⊎_elim}
@@ -25,8 +28,6 @@ use Rattle.state.proofs.Exactly.{held-accepted, sound-yes}
 use Rattle.room.specs.File.{block_octets, joined}
 use Rattle.judge.specs.Judge.{data_of, first_slot, next_slot}
 use Rattle.judge.proofs.Parts.{begun-right}
-use Rattle.station.specs.declared.Told.{Told}
-use Rattle.station.specs.declared.Told.TheVariants.{Refused, Known}
 use Rattle.station.specs.Files.{is_held, counter_in, facts_in, told_number}
 use Rattle.station.proofs.Calls.{told_is, told-zero}
 use Rattle.station.proofs.Counters.{counter-front}
@@ -59,19 +60,19 @@ same-file x [] y e =
 same-file x (p ∷ ps) y (g, o) = same-file (next_slot x (packet_of p)) ps y o
 
 module _ {w : World} (h : SoundWorld w) (k : ℕ) where
-  none_told : ((k < 32) × (held (slot_at w.station k) ≡ true) → ⊥) → told_in w k ≡ Refused 11
+  none_told : ((k < 32) × (held (slot_at w.station k) ≡ true) → ⊥) → told_in w k ≡ refuse 11
   none_told n = told_is w.station k w.store ∙ rw (world_store h, world-sound h, not-held w.station k n)
 
-  part-told : k < 32 → held (slot_at w.station k) ≡ true → complete (slot_at w.station k) ≡ false → told_in w k ≡ Refused 12
+  part-told : k < 32 → held (slot_at w.station k) ≡ true → complete (slot_at w.station k) ≡ false → told_in w k ≡ refuse 12
   part-told low here part = told_is w.station k w.store ∙ rw (world_store h, world-sound h, lt-ltb k 32 low, here, part)
 
-  whole-told : k < 32 → complete (slot_at w.station k) ≡ true → told_in w k ≡ Known (facts_in w.station w.store k)
+  whole-told : k < 32 → complete (slot_at w.station k) ≡ true → told_in w k ≡ Ok (facts_in w.station w.store k)
   whole-told low whole =
       told_is w.station k w.store
       ∙ rw (world_store h, world-sound h, lt-ltb k 32 low, (complete-held (slot_at w.station k) whole).0, whole)
 
   -- a number that is given, and why
-  numbered : (n : ℕ) → told_in w k ≡ Refused n
+  numbered : (n : ℕ) → told_in w k ≡ refuse n
       → (((k < 32) × (held (slot_at w.station k) ≡ true) → ⊥) × (n ≡ 11))
       ⊎ (((k < 32) × (held (slot_at w.station k) ≡ true) × (complete (slot_at w.station k) ≡ false)) × (n ≡ 12))
   numbered n e = go (is_held s k) (complete (slot_at s k)) refl refl
@@ -92,7 +93,7 @@ module _ {w : World} (h : SoundWorld w) (k : ℕ) where
           inr ((low, here, g), ap told_number (sym e ∙ part-told low here g))
       go true true f g =
           let low = ltb-true k 32 (and_left (ltb k 32) (held (slot_at s k)) f) in
-          let other : Refused n ≡ Known (facts_in s w.store k) = sym e ∙ whole-told low g in
+          let other : refuse n ≡ Ok (facts_in s w.store k) = sym e ∙ whole-told low g in
           absurd (let z : ◌≡◌ {A = ℕ} 0 1 = cc in omega arith)
 
   telling-refused : TellingRefused w k
@@ -142,17 +143,17 @@ module _ (x : Start) (cs : List Call) (k : ℕ) (low : k < 32) (y : Slot) (m : C
       let bits = ap (λ (z : Slot). z.bits) slot ∙ l ∙ ap (λ (t : Transport). t.bits) right.is in
       λ i. record { channel = channel i; application = application i; counter = counter i; bits = bits i }
 
-  told : told_in end k ≡ Known (facts_of m.channel m.first)
-  told = whole-told (run_sound (fresh-sound x) cs) k low (ap complete slot ∙ done) ∙ ap Known facts
+  told : told_in end k ≡ Ok (facts_of m.channel m.first)
+  told = whole-told (run_sound (fresh-sound x) cs) k low (ap complete slot ∙ done) ∙ ap Ok facts
 
 -- what is told of a complete file is what the first packet accepted for it says
 pub facts-came : (x : Start) (cs : List Call) → FactsCame x cs
 facts-came x cs = told x cs
 
 -- what is told of a file is what a sound slot holds
-abbrev fact : Told → Facts → Facts
-fact (Known f) g = f
-fact (Refused n) g = g
+abbrev fact : Result Facts Refusal → Facts → Facts
+fact (Ok f) g = f
+fact (Err n) g = g
 
 pub facts-good : (w : World) → Sized w.station → FactsGood w
 unfolding facts_in
@@ -162,9 +163,9 @@ facts-good w z k f e =
     let S = sound-yes z sound in
     let here = (complete-held (slot_at s k) whole).0 in
     let H = S.files k low here in
-    let is_known : told_in w k ≡ Known (facts_in s w.store k) =
+    let is_known : told_in w k ≡ Ok (facts_in s w.store k) =
     told_is s k w.store ∙ rw (fits, sound, lt-ltb k 32 low, here, whole) in
-    let known : f ≡ facts_in s w.store k = ap (λ (t : Told). fact t f) (sym e ∙ is_known) in
+    let known : f ≡ facts_in s w.store k = ap (λ (t : Result Facts Refusal). fact t f) (sym e ∙ is_known) in
     let (i, within, is) = H.watched in
     let some = told-true (length-plainly (slot_at s k).bits) H.bits in
     rw known (omega (arith, S.set_up.low i within, is), H.application, omega (arith, some))

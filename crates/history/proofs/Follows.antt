@@ -1,4 +1,5 @@
 -- A held file is what following the things since its opening gives. Assumes nothing.
+use Rattle.std.specs.Prelude.{Some}
 use mathlib.Core.Path.{◌≡◌, refl, sym, ap, subst, ◌∙◌}
 use mathlib.Core.Bool.{true, false, true≢false}
 use mathlib.Core.Logic.{◌⊎◌, ◌↔◌, inl, inr, ⊎_elim}
@@ -14,7 +15,6 @@ use Rattle.frame.specs.declared.Channel.{Channel}
 use Rattle.packet.specs.declared.Application.{Application}
 use Rattle.packet.specs.declared.Packet.{Packet}
 use Rattle.packet.specs.Header.{packet_of}
-use Rattle.transport.specs.declared.Begun.TheVariants.{Right}
 use Rattle.transport.specs.declared.Transport.{Transport}
 use Rattle.transport.specs.Shape.{begun_of}
 use Rattle.state.specs.declared.Slot.{Slot}
@@ -127,7 +127,7 @@ fares {s} {store} (t ∷ ts) h r k low e = by (turn h k low t) (fares {s = (did 
 -- the slot of a file that event 10 tells of
 module _ {s : Station} {store : List ℕ} (h : Settled s store) (k : ℕ) (c : Channel) (p : List ℕ) where
   pub opened-slot : Among (at 10 (packet_of p).application.0 k) (judged c s store p).events
-      → {t : Transport} → begun_of (packet_of p).flags (data_of p) ≡ Right t
+      → {t : Transport} → begun_of (packet_of p).flags (data_of p) ≡ Some t
       → slot_at (judged c s store p).station k ≡ first_slot c (packet_of p) t
   opened-slot m {t} right = by (judged-slot c s store p h.sized h.sound h.stored k)
     where
@@ -135,7 +135,7 @@ module _ {s : Station} {store : List ℕ} (h : Settled s store) (k : ℕ) (c : C
       told q = in-among k (eq-eqb k k refl) m q
 
       first : {t' : Transport} → slot_at (judged c s store p).station k ≡ first_slot c (packet_of p) t'
-          → begun_of (packet_of p).flags (data_of p) ≡ Right t' → slot_at (judged c s store p).station k ≡ first_slot c (packet_of p) t
+          → begun_of (packet_of p).flags (data_of p) ≡ Some t' → slot_at (judged c s store p).station k ≡ first_slot c (packet_of p) t
       first {t'} e q =
           let one : t' ≡ t = cc in
           e ∙ ap (first_slot c (packet_of p)) one

@@ -1,4 +1,6 @@
 -- What becomes of a frame call: it is refused and nothing changes, or it is taken, and what is known then. Assumes nothing.
+use Rattle.refusals.specs.declared.Refusal.{Refusal}
+use Rattle.std.specs.Prelude.{Result, Ok, Err}
 use mathlib.Core.Path.{◌≡◌, refl}
 use mathlib.Core.Bool.{Bool, true, false, ◌&&◌}
 use mathlib.Core.List.{List}
@@ -8,8 +10,6 @@ use borrow.Author.Tests.{leb-true}
 use lib.Dec.{leb}
 use lib.ListN.{length, take}
 use Rattle.frame.specs.declared.Accepted.{Accepted}
-use Rattle.frame.specs.declared.Examined.{Examined}
-use Rattle.frame.specs.declared.Examined.TheVariants.{Refused, Good}
 use Rattle.frame.specs.Header.{derandomised, zone_of}
 use Rattle.frame.proofs.Answers.{refusal-number}
 use Rattle.state.specs.declared.Station.{Station}
@@ -28,7 +28,7 @@ pub record Taken (w : World) (f list : List ℕ) : Type 0 where
   pub lent : lent_right w.station w.desks w.store list ≡ true
   pub sound : is_sound w.station ≡ true
   pub desks-sound : are_desks_sound w.station w.desks ≡ true
-  pub good : examined_in w f ≡ Good frame
+  pub good : examined_in w f ≡ Ok frame
   pub gives :
       frame_in w f list
       ≡ taken w.station list
@@ -40,7 +40,7 @@ pub data Framing (w : World) (f list : List ℕ) : Type 0 where
 
 -- what is enough for a frame to be taken
 pub takes-good : (w : World) (f list : List ℕ) {a : Accepted} → lent_right w.station w.desks w.store list ≡ true → is_sound w.station ≡ true
-    → are_desks_sound w.station w.desks ≡ true → examined_in w f ≡ Good a → Taken w f list
+    → are_desks_sound w.station w.desks ≡ true → examined_in w f ≡ Ok a → Taken w f list
 unfolding framed admitted examined_frame
 takes-good w f list {a} l h d e =
     record { frame = a; lent = l; sound = h; desks-sound = d; good = e; gives = rw (l, h, d, e) }
@@ -53,11 +53,11 @@ framing w f list = lends (lent_right s w.desks w.store list) refl
     s = w.station
 
     by : lent_right s w.desks w.store list ≡ true → is_sound s ≡ true → are_desks_sound s w.desks ≡ true
-        → (e : Examined) → examined_in w f ≡ e → Framing w f list
-    by l h d (Refused n) e =
-        let m = refusal-number s.spacecraft (take s.channels s.watched) f n e in
-        refuses n (omega arith) (rw (l, h, d, e))
-    by l h d (Good a) e =
+        → (e : Result Accepted Refusal) → examined_in w f ≡ e → Framing w f list
+    by l h d (Err n) e =
+        let m = refusal-number s.spacecraft (take s.channels s.watched) f n.0 e in
+        refuses n.0 (omega arith) (rw (l, h, d, e))
+    by l h d (Ok a) e =
         takes (takes-good w f list l h d e)
 
     sounds : lent_right s w.desks w.store list ≡ true → (b c : Bool) → is_sound s ≡ b → are_desks_sound s w.desks ≡ c → Framing w f list

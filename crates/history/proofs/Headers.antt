@@ -1,4 +1,6 @@
 -- A complete file is read out, and its header is read to its meaning or refused by number. Assumes nothing.
+use Rattle.std.specs.Prelude.{Ok}
+use Rattle.refusals.specs.Refusals.{refuse}
 use mathlib.Core.Path.{◌≡◌, refl, ap, ◌∙◌}
 use mathlib.Core.Bool.{true, false}
 use mathlib.Core.Logic.{inl, inr}
@@ -7,11 +9,10 @@ use Prim.Native.Nat.{ℕ}
 use native.Mathlib.Omega.{arith}
 use lib.ListN.{length, take, replicate, length-replicate}
 use lib.Seq.{take_all}
-use Rattle.octets.proofs.Reasons.{None, decided-cases, none-decided, first-decided, first-between}
-use Rattle.records.specs.declared.RecordAnswer.TheVariants.{Refused}
+use Rattle.octets.proofs.Reasons.{NoneApplies, decided-cases, none-decided, first-decided, first-between}
 use Rattle.records.specs.Table.{fixed_types}
 use Rattle.records.specs.Records.{header_of, records, header_says, nth}
-use Rattle.records.specs.Reader.{fields_of, refused_header, read_header, read_record}
+use Rattle.records.specs.Reader.{fields_of, read_header, read_record}
 use Rattle.records.specs.Together.{Accepted}
 use Rattle.records.proofs.Together.{together, header-between}
 use Rattle.records.proofs.Placing.{place-of-one, place-of-none}
@@ -24,10 +25,10 @@ use Rattle.history.specs.Headers.{ReadToMeaning, HeaderRight, HeadersRead}
 use Rattle.history.proofs.Pages.{files-carried}
 
 module _ (file : List ℕ) where
-  header-accepted : None (header_says fixed_types file) → Accepted fixed_types file
+  header-accepted : NoneApplies (header_says fixed_types file) → Accepted fixed_types file
   header-accepted none = none-decided true (λ n. false) (header_says fixed_types file) none
 
-  header_read : None (header_says fixed_types file) → ReadToMeaning file
+  header_read : NoneApplies (header_says fixed_types file) → ReadToMeaning file
   unfolding read_header read_record
   header_read none =
       let whole = together fixed_types file (header-accepted none) in
@@ -39,8 +40,8 @@ module _ (file : List ℕ) where
               there = λ r n m fixed. place-of-one r.kind r (records (header_of file)) (whole.once r.kind n fixed) m refl;
               absent = λ kind away. place-of-none kind (records (header_of file)) away;
             };
-        fields = none-decided (fields_of (header_of file)) refused_header (header_says fixed_types file) none;
-        asked = λ n. none-decided (nth (records (header_of file)) n) Refused (header_says fixed_types file) none;
+        fields = none-decided (Ok (fields_of (header_of file))) refuse (header_says fixed_types file) none;
+        asked = λ n. none-decided (nth (records (header_of file)) n) refuse (header_says fixed_types file) none;
       }
 
   -- of any octets
@@ -54,8 +55,8 @@ module _ (file : List ℕ) where
         record {
           first = first-decided 0 (λ m. m) first;
           range = first-between 20 26 first (header-between fixed_types 26 (omega arith) file);
-          fields = first-decided (fields_of (header_of file)) refused_header first;
-          asked = λ i. first-decided (nth (records (header_of file)) i) Refused first;
+          fields = first-decided (Ok (fields_of (header_of file))) refuse first;
+          asked = λ i. first-decided (nth (records (header_of file)) i) refuse first;
         },
       ))
 

@@ -90,7 +90,7 @@ module _ {w : World} (h : SoundWorld w) (k : ℕ) where
       record {
         any = any_held;
         gone = λ e. rw ((let_go-outcome s k).done e) (gone-by (any_held.0 e).0);
-        by-11 = λ n. ap (λ (r : LetGo). r.answer) (let_go-is s k) ∙ rw (world-sound h, not-held s k (λ there. n (any_held.1 there)));
+        by-11 = λ n. ap (λ (r : LetGo). r.answer) (let_go-is s k) ∙ rw (world-sound h, not-held s k (λ there. n (any_held.1 there))) refl;
       }
 
   -- "reports whether it was complete"; of a slot that is not held nothing is complete

@@ -1,4 +1,5 @@
 -- A run of calls is a list of things, one after the other, and the state is sound before and after each of them. Assumes nothing.
+use Rattle.std.specs.Prelude.{Ok}
 use mathlib.Core.Path.{◌≡◌, refl, sym, ap, ap₂, subst, ◌∙◌}
 use mathlib.Core.Bool.{true≢false}
 use mathlib.Core.List.{List, [], ◌∷◌, ◌++◌, map}
@@ -9,7 +10,6 @@ use borrow.Author.Tests.{eq-eqb, ne_eqb}
 use lib.ListN.{length}
 use Rattle.octets.proofs.Lists.{if-true, if-false}
 use Rattle.frame.specs.declared.Channel.{Channel}
-use Rattle.frame.specs.declared.Examined.TheVariants.{Good}
 use Rattle.frame.specs.Header.{derandomised, zone_of}
 use Rattle.state.specs.declared.Desk.{Desk}
 use Rattle.state.specs.declared.Station.{Station}
@@ -154,7 +154,7 @@ module _ (w : World) where
     unfolding answer
     taken-zero = ap (λ (r : FrameOutcome). r.answer) t.gives
 
-    pub things-taken : things w (frame f list) ≡ framed_things w f (Good t.frame)
+    pub things-taken : things w (frame f list) ≡ framed_things w f (Ok t.frame)
     unfolding things
     things-taken =
         if-true (framed_things w f (examined_in w f)) [] (eq-eqb (answer w (frame f list)) 0 taken-zero) ∙ ap (framed_things w f) t.good

@@ -1,4 +1,5 @@
 -- Whether a packet that starts a file finds a slot, and room. Assumes nothing.
+use Rattle.std.specs.Prelude.{Option, Some, None}
 use mathlib.Core.Path.{◌≡◌, refl, sym, ap, subst, ◌∙◌}
 use mathlib.Core.Bool.{true, true≢false}
 use mathlib.Core.Logic.{◌↔◌}
@@ -16,8 +17,6 @@ use Rattle.state.specs.Slots.{slot_at, held, need_of}
 use Rattle.state.specs.Blocks.{blocks_of, needs, room}
 use Rattle.state.specs.Sound.{Sized, Sound}
 use Rattle.state.proofs.Places.{needs-fit}
-use Rattle.room.specs.declared.Found.{Found}
-use Rattle.room.specs.declared.Found.TheVariants.{At, Nothing}
 use Rattle.room.specs.Find.{free_slot, file_of}
 use Rattle.room.specs.Move.{let_go}
 use Rattle.room.proofs.Find.{free-at, free-nowhere}
@@ -38,11 +37,11 @@ use Rattle.history.proofs.Follows.{opened-slot}
 use Rattle.history.proofs.Blocks.{moment-packet}
 use Rattle.history.proofs.Turns.{none-held}
 
-pub unless : (f : Found) {g : Found} → g ≡ f → ((k : ℕ) → g ≡ At k → ⊥) → g ≡ Nothing
-unless (At k) e n = absurd (n k e)
-unless Nothing e n = e
+pub unless : (f : Option ℕ) {g : Option ℕ} → g ≡ f → ((k : ℕ) → g ≡ Some k → ⊥) → g ≡ None
+unless (Some k) e n = absurd (n k e)
+unless None e n = e
 
-pub never : {k : ℕ} → At k ≡ Nothing → ⊥
+pub never : {k : ℕ} → Some k ≡ None → ⊥
 never e =
     let z : ◌≡◌ {A = ℕ} 0 1 = cc in
     omega arith
@@ -52,9 +51,9 @@ module _ {s : Station} (z : Sized s) (S : Sound s) (c : Channel) (p : List ℕ) 
   pub room-cleared : room (cleared c s p) ≡ room_for s c p
   room-cleared = by (file_of s c (packet_of p).application) refl
     where
-      by : (f : Found) → file_of s c (packet_of p).application ≡ f → room (rid s f) ≡ s.blocks - (needs s.slots - need_at s f)
-      by Nothing e = omega arith
-      by (At k) e =
+      by : (f : Option ℕ) → file_of s c (packet_of p).application ≡ f → room (rid s f) ≡ s.blocks - (needs s.slots - need_at s f)
+      by None e = omega arith
+      by (Some k) e =
           let g = file-going z S c (packet_of p).application e in
           let r = let_go-refiles s k in
           omega (
@@ -68,22 +67,22 @@ module _ {s : Station} (z : Sized s) (S : Sound s) (c : Channel) (p : List ℕ) 
   pub cleared-sized : Sized (cleared c s p)
   cleared-sized = by (file_of s c (packet_of p).application)
     where
-      by : (f : Found) → Sized (rid s f)
-      by Nothing = z
-      by (At k) = refiled-sized (let_go-refiles s k) z
+      by : (f : Option ℕ) → Sized (rid s f)
+      by None = z
+      by (Some k) = refiled-sized (let_go-refiles s k) z
 
   -- no slot is free then exactly if none was, and no older file has left one
-  none_free : (free_slot (cleared c s p) ≡ Nothing)
-      ↔ ((file_of s c (packet_of p).application ≡ Nothing) × ((k : ℕ) → k < 32 → held (slot_at s k) ≡ true))
+  none_free : (free_slot (cleared c s p) ≡ None)
+      ↔ ((file_of s c (packet_of p).application ≡ None) × ((k : ℕ) → k < 32 → held (slot_at s k) ≡ true))
   none_free = by (file_of s c (packet_of p).application) refl
     where
-      by : (f : Found) → file_of s c (packet_of p).application ≡ f
-          → (free_slot (rid s f) ≡ Nothing) ↔ ((f ≡ Nothing) × ((k : ℕ) → k < 32 → held (slot_at s k) ≡ true))
-      by Nothing e = (
+      by : (f : Option ℕ) → file_of s c (packet_of p).application ≡ f
+          → (free_slot (rid s f) ≡ None) ↔ ((f ≡ None) × ((k : ℕ) → k < 32 → held (slot_at s k) ≡ true))
+      by None e = (
         λ q. (refl, λ k l. free-nowhere s q k (omega (arith, z.slots))),
         λ (q, all). unless (free_slot s) refl (λ k f. true≢false (sym (all k (omega (arith, (free-at s k f).low, z.slots))) ∙ (free-at s k f).free)),
       )
-      by (At k) e =
+      by (Some k) e =
           let g = file-going z S c (packet_of p).application e in
           let r = let_go-refiles s k in (
             λ q.
@@ -94,24 +93,24 @@ module _ {s : Station} (z : Sized s) (S : Sound s) (c : Channel) (p : List ℕ) 
           )
 
 module _ {s : Station} {store : List ℕ} (h : Settled s store) (c : Channel) (p : List ℕ) {t : Transport} (start : Starts p t) where
-  eight-exactly : Among (of 8 (packet_of p).application.0) (judged c s store p).events ↔ (free_slot (cleared c s p) ≡ Nothing)
+  eight-exactly : Among (of 8 (packet_of p).application.0) (judged c s store p).events ↔ (free_slot (cleared c s p) ≡ None)
   eight-exactly = (
     λ m. by ((given-exactly c s store p (of 8 (packet_of p).application.0)).0 m).reason,
     λ e. (given-exactly c s store p (of 8 (packet_of p).application.0)).1 (record { application = refl; reason = all_held start e }),
   )
     where
-      by : Given c s p 8 0 → free_slot (cleared c s p) ≡ Nothing
+      by : Given c s p 8 0 → free_slot (cleared c s p) ≡ None
       by (all_held g' e) = e
 
-  some-slot : (free_slot (cleared c s p) ≡ Nothing → ⊥) → (k : ℕ) × (free_slot (cleared c s p) ≡ At k)
+  some-slot : (free_slot (cleared c s p) ≡ None → ⊥) → (k : ℕ) × (free_slot (cleared c s p) ≡ Some k)
   some-slot n = by (free_slot (cleared c s p)) refl
     where
-      by : (f : Found) → free_slot (cleared c s p) ≡ f → (k : ℕ) × (free_slot (cleared c s p) ≡ At k)
-      by (At k) e = (k, e)
-      by Nothing e = absurd (n e)
+      by : (f : Option ℕ) → free_slot (cleared c s p) ≡ f → (k : ℕ) × (free_slot (cleared c s p) ≡ Some k)
+      by (Some k) e = (k, e)
+      by None e = absurd (n e)
 
   -- event 10 names the lowest free slot
-  opened-at : {j k : ℕ} → free_slot (cleared c s p) ≡ At j → Among (at 10 (packet_of p).application.0 k) (judged c s store p).events → k ≡ j
+  opened-at : {j k : ℕ} → free_slot (cleared c s p) ≡ Some j → Among (at 10 (packet_of p).application.0 k) (judged c s store p).events → k ≡ j
   opened-at {j} {k} f m = by ((given-exactly c s store p (at 10 (packet_of p).application.0 k)).0 m).reason
     where
       by : Given c s p 10 k → k ≡ j

@@ -1,4 +1,5 @@
 -- Every world that a run reaches is sound, and no call on it is answered by 2. Assumes nothing.
+use Rattle.std.specs.Prelude.{Ok}
 use mathlib.Core.Path.{◌≡◌, sym, ap, ◌∙◌}
 use mathlib.Core.Bool.{true}
 use mathlib.Core.List.{List, [], ◌∷◌}
@@ -8,7 +9,6 @@ use borrow.Author.Tests.{eq-eqb, le-leb}
 use lib.ListN.{length}
 use Rattle.octets.proofs.Tests.{and_both}
 use Rattle.frame.specs.declared.Accepted.{Accepted}
-use Rattle.frame.specs.declared.Examined.TheVariants.{Good}
 use Rattle.frame.specs.Header.{derandomised, zone_of}
 use Rattle.frame.proofs.Answers.{good-size, counter-good}
 use Rattle.frame.proofs.Sizes.{length-derandomised, length-zone}
@@ -44,11 +44,11 @@ module _ {w : World} (h : SoundWorld w) where
       and_both (and_both (le-leb 1 n h.sound.set_up.store) (le-leb n 4096 h.sound.set_up.least)) (eq-eqb _ _ h.stored)
 
   -- and takes every good frame with a list of the size that is asked for
-  pub sound-takes : (f list : List ℕ) {a : Accepted} → examined_in w f ≡ Good a → 900 ≤ length list → (t : Taken w f list) × (t.frame ≡ a)
+  pub sound-takes : (f list : List ℕ) {a : Accepted} → examined_in w f ≡ Ok a → 900 ≤ length list → (t : Taken w f list) × (t.frame ≡ a)
   sound-takes f list {a} e room =
       let lent = and_both (and_both (eq-eqb _ _ h.desked) world_store) (le-leb 900 (length list) room) in
       let t = takes-good w f list lent world-sound world-desks e in
-      let good : examined_in w f ≡ Good t.frame = t.good in
+      let good : examined_in w f ≡ Ok t.frame = t.good in
       (t, cc)
 
   module _ {f list : List ℕ} (t : Taken w f list) where

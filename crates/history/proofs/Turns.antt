@@ -1,5 +1,5 @@
 -- What one thing does to one slot, and that it is what the slot's fate says. Assumes nothing.
-use Rattle.std.specs.Prelude.{if◌then◌else◌}
+use Rattle.std.specs.Prelude.{if◌then◌else◌, Some}
 use mathlib.Core.Path.{◌≡◌, refl, sym, ap, subst, ◌∙◌}
 use mathlib.Core.Bool.{Bool, true, false, not, ◌&&◌, ◌||◌, true≢false}
 use mathlib.Core.Logic.{◌⊎◌, inl, inr, ⊎_elim}
@@ -19,7 +19,6 @@ use Rattle.state.specs.declared.Slot.{Slot}
 use Rattle.state.specs.declared.Station.{Station}
 use Rattle.state.specs.Slots.{slot_at, no_file, held, incomplete, of_pair}
 use Rattle.state.specs.Sound.{Sized, Sound}
-use Rattle.room.specs.declared.Found.TheVariants.{At}
 use Rattle.room.specs.Find.{file_of}
 use Rattle.room.proofs.Find.{same-pair, file-at, file-only}
 use Rattle.room.proofs.Keeps.{refiled-slot, refiled-slots, let_go-refiles}
@@ -51,7 +50,7 @@ not_so b = decides-same (false-unless b) (λ e f. true≢false (sym f ∙ e)) (d
 
 module _ {s : Station} (z : Sized s) (S : Sound s) (c : Channel) (p : List ℕ) (k : ℕ) (low : k < 32) where
   -- the file of the packet's channel and application is in slot k
-  concerns-exactly : Decides (Undamaged p × (file_of s c (packet_of p).application ≡ At k)) (concerns (slot_at s k) c p)
+  concerns-exactly : Decides (Undamaged p × (file_of s c (packet_of p).application ≡ Some k)) (concerns (slot_at s k) c p)
   unfolding concerns
   concerns-exactly =
       let a = (packet_of p).application in

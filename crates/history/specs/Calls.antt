@@ -1,5 +1,7 @@
 -- Demand 1: what each call answers, of any octets and any state, reached or not; and that a refused call changes nothing. Assumes nothing.
-use Rattle.std.specs.Prelude.{◌≡◌, Bool, true, false, List, [], ◌∷◌, ℕ, ◌≤◌, length}
+use Rattle.facts.specs.declared.Facts.{Facts}
+use Rattle.refusals.specs.declared.Refusal.{Refusal}
+use Rattle.std.specs.Prelude.{◌≡◌, Bool, true, false, List, [], ◌∷◌, ℕ, ◌≤◌, length, Result}
 use Rattle.octets.specs.Buffer.{put}
 use Rattle.state.specs.Slots.{all_zero_state}
 use Rattle.state.specs.Sound.{Sized}
@@ -7,7 +9,6 @@ use Rattle.state.specs.Plainly.{Stray}
 use Rattle.state.specs.Decision.{among}
 use Rattle.events.specs.Event.{flat}
 use Rattle.station.specs.SetUp.{set_up_gives, set_up}
-use Rattle.station.specs.declared.Told.{Told as FileTold}
 use Rattle.station.specs.Files.{file_let_go, read_out, told_of, told_number, told_values}
 use Rattle.octets.specs.Reasons.{Reason, numbers, applies}
 use Rattle.station.specs.Answers.{set_up_says, frame_says, read_says, let_go_says, told_says}
@@ -68,7 +69,7 @@ pub record Answers (w : World) (c : Call) : Type 0 where
 
 -- what is told of the file in a slot. The call takes the state by value and is lent the store for reading, so it changes nothing, whatever it
 -- answers: it is no `Call` of a run, since a run with it is the run without it
-abbrev pub told_in : World → ℕ → FileTold
+abbrev pub told_in : World → ℕ → Result Facts Refusal
 told_in w k = told_of w.station w.store k
 
 -- what it answers

@@ -1,5 +1,6 @@
 -- Demand 2: when a file is complete, that its octets are those its packets carried, and what is told of it. Assumes nothing.
-use Rattle.std.specs.Prelude.{◌≡◌, true, false, ◌⊎◌, ◌↔◌, ℕ, ◌+◌, ◌/◌, ◌%◌, ◌≤◌, ◌<◌, eqb, length, get_or, take, drop, if◌then◌else◌}
+use Rattle.refusals.specs.Refusals.{refuse}
+use Rattle.std.specs.Prelude.{◌≡◌, true, false, ◌⊎◌, ◌↔◌, ℕ, ◌+◌, ◌/◌, ◌%◌, ◌≤◌, ◌<◌, eqb, length, get_or, take, drop, if◌then◌else◌, Ok}
 use mathlib.Core.List.{List, [], ◌∷◌, ◌++◌, map, flatten}
 use Rattle.octets.specs.Number.{part}
 use Rattle.frame.specs.declared.Channel.{Channel}
@@ -15,7 +16,6 @@ use Rattle.room.specs.File.{block_octets, file_octets}
 use Rattle.events.specs.Event.{at, Among}
 use Rattle.judge.specs.Judge.{data_of, first_slot, next_slot, judged}
 use Rattle.judge.specs.Packets.{Undamaged, Starting, Starts, Following}
-use Rattle.station.specs.declared.Told.TheVariants.{Refused, Known}
 use Rattle.history.specs.Run.{World, Call, answer, run, Start, fresh}
 use Rattle.history.specs.Run.Call.{read, let-go}
 use Rattle.history.specs.Calls.{result_of, reported, told_in}
@@ -171,17 +171,17 @@ facts_of c first =
 -- "channel 1, application 2, file counter 2, L 8" (02, 5/14): what is told of a complete file is what the first packet accepted for it says
 abbrev pub FactsCame : Start → List Call → Type 0
 FactsCame x cs =
-    (k : ℕ) → k < 32 → (y : Slot) (m : CameInRun x cs k y) → complete y ≡ true → told_in (run (fresh x) cs) k ≡ Known (facts_of m.channel m.first)
+    (k : ℕ) → k < 32 → (y : Slot) (m : CameInRun x cs k y) → complete y ≡ true → told_in (run (fresh x) cs) k ≡ Ok (facts_of m.channel m.first)
 
 -- and of no other file anything: "11: slot 32 or more, or not held", "12: .. an incomplete file", each exactly then; no other number is given
 pub record TellingRefused (w : World) (k : ℕ) : Type 0 where
-  pub by-11 : (told_in w k ≡ Refused 11) ↔ ((k < 32) × (held (slot_at w.station k) ≡ true) → ⊥)
-  pub by-12 : (told_in w k ≡ Refused 12) ↔ ((k < 32) × (held (slot_at w.station k) ≡ true) × (complete (slot_at w.station k) ≡ false))
-  pub no_other : (n : ℕ) → told_in w k ≡ Refused n → (n ≡ 11) ⊎ (n ≡ 12)
+  pub by-11 : (told_in w k ≡ refuse 11) ↔ ((k < 32) × (held (slot_at w.station k) ≡ true) → ⊥)
+  pub by-12 : (told_in w k ≡ refuse 12) ↔ ((k < 32) × (held (slot_at w.station k) ≡ true) × (complete (slot_at w.station k) ≡ false))
+  pub no_other : (n : ℕ) → told_in w k ≡ refuse n → (n ≡ 11) ⊎ (n ≡ 12)
 
 abbrev pub TellingsRefused : World → Type 0
 TellingsRefused w = (k : ℕ) → TellingRefused w k
 
 -- "with channels 0 to 62, applications up to 2015 and L at least 1" (02, 5/14): what is told, from whatever state was handed in, no catalogue refuses
 abbrev pub FactsGood : World → Type 0
-FactsGood w = (k : ℕ) (f : Facts) → told_in w k ≡ Known f → (f.channel.0 ≤ 62) × (f.application.0 ≤ 2015) × (1 ≤ f.bits)
+FactsGood w = (k : ℕ) (f : Facts) → told_in w k ≡ Ok f → (f.channel.0 ≤ 62) × (f.application.0 ≤ 2015) × (1 ≤ f.bits)

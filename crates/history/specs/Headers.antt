@@ -1,16 +1,14 @@
 -- Demand 2, "and its header records are read to their published meaning or refused by number": the octets that a read of a complete file
 -- gives, and what the header reader says of them. Assumes nothing.
-use Rattle.std.specs.Prelude.{◌≡◌, true, ◌⊎◌, ℕ, ◌≤◌, ◌<◌, replicate}
+use Rattle.refusals.specs.Refusals.{refuse}
+use Rattle.std.specs.Prelude.{◌≡◌, true, ◌⊎◌, ℕ, ◌≤◌, ◌<◌, replicate, Some, None, Ok}
 use mathlib.Core.List.{List, Memᴰ}
 use Rattle.octets.specs.Reasons.{decided}
 use Rattle.transport.specs.Length.{octets_of_bits}
 use Rattle.records.specs.declared.Record.{Record}
-use Rattle.records.specs.declared.RecordAnswer.TheVariants.{Refused}
-use Rattle.records.specs.declared.Stands.TheVariants.{At, Nowhere}
-use Rattle.records.specs.declared.TypeLength.TheVariants.{Fixed}
 use Rattle.records.specs.Table.{fixed_types, length_of}
 use Rattle.records.specs.Records.{header_of, records, header_says, nth, place_of}
-use Rattle.records.specs.Reader.{fields_of, refused_header, read_header, read_record}
+use Rattle.records.specs.Reader.{fields_of, read_header, read_record}
 use Rattle.records.specs.Together.{Together}
 use Rattle.state.specs.Slots.{slot_at, complete}
 use Rattle.history.specs.Run.{World, Call, answer, run, Start, fresh}
@@ -21,9 +19,9 @@ use Rattle.history.specs.Files.{carried}
 
 -- "the fixed fields or their absence": the place at which the fields of a type are read is that of its one record
 pub record Placed (header : List ℕ) : Type 0 where
-  pub there : (r : Record) (n : ℕ) → Memᴰ r (records header) → length_of fixed_types r.kind ≡ Fixed n
-      → place_of r.kind (records header) ≡ At r.place
-  pub absent : (kind : ℕ) → ((r : Record) → Memᴰ r (records header) → r.kind ≡ kind → ⊥) → place_of kind (records header) ≡ Nowhere
+  pub there : (r : Record) (n : ℕ) → Memᴰ r (records header) → length_of fixed_types r.kind ≡ Some n
+      → place_of r.kind (records header) ≡ Some r.place
+  pub absent : (kind : ℕ) → ((r : Record) → Memᴰ r (records header) → r.kind ≡ kind → ⊥) → place_of kind (records header) ≡ None
 
 -- "read to their published meaning": no number applies. The records cover the header, each fixed type has its length and is there once at
 -- most (Together); the answer holds the fixed fields, each read at its record; and a record is given by its number, or 27
@@ -31,15 +29,15 @@ pub record ReadToMeaning (file : List ℕ) : Type 0 where
   pub none : decided (header_says fixed_types file) 0 (λ n. n) ≡ 0
   pub together : Together fixed_types file
   pub placed : Placed (header_of file)
-  pub fields : read_header file ≡ fields_of (header_of file)
+  pub fields : read_header file ≡ Ok (fields_of (header_of file))
   pub asked : (n : ℕ) → read_record file n ≡ nth (records (header_of file)) n
 
 -- "or refused by number": the first that applies of the table, 20 to 26, and no other result
 pub record RefusedBy (file : List ℕ) (n : ℕ) : Type 0 where
   pub first : decided (header_says fixed_types file) 0 (λ m. m) ≡ n
   pub range : (20 ≤ n) × (n ≤ 26)
-  pub fields : read_header file ≡ refused_header n
-  pub asked : (i : ℕ) → read_record file i ≡ Refused n
+  pub fields : read_header file ≡ refuse n
+  pub asked : (i : ℕ) → read_record file i ≡ refuse n
 
 abbrev pub HeaderRight : List ℕ → Type 0
 HeaderRight file = ReadToMeaning file ⊎ ((n : ℕ) × RefusedBy file n)

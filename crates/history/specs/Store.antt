@@ -1,5 +1,5 @@
 -- Demand 3: the store's blocks, the room that a packet finds, and how a file leaves its slot. Assumes nothing.
-use Rattle.std.specs.Prelude.{◌≡◌, true, false, ◌⊎◌, ◌↔◌, List, ◌∷◌, ◌++◌, ℕ, ◌-◌, ◌≤◌, ◌<◌, length, get_or}
+use Rattle.std.specs.Prelude.{◌≡◌, true, false, ◌⊎◌, ◌↔◌, List, ◌∷◌, ◌++◌, ℕ, ◌-◌, ◌≤◌, ◌<◌, length, get_or, Option, Some, None}
 use Rattle.frame.specs.declared.Channel.{Channel}
 use Rattle.packet.specs.Header.{packet_of}
 use Rattle.transport.specs.declared.Transport.{Transport}
@@ -7,8 +7,6 @@ use Rattle.transport.specs.Length.{need}
 use Rattle.state.specs.declared.Station.{Station}
 use Rattle.state.specs.Slots.{slot_at, held, need_of}
 use Rattle.state.specs.Blocks.{table, blocks_of, Stands, needs}
-use Rattle.room.specs.declared.Found.{Found}
-use Rattle.room.specs.declared.Found.TheVariants.{At, Nothing}
 use Rattle.room.specs.Find.{file_of}
 use Rattle.events.specs.Event.{Event, of, at, Among}
 use Rattle.judge.specs.Contract.{Watched, Whole}
@@ -122,9 +120,9 @@ Event6 s store c p =
     (k : ℕ) → k < 32 → Among (at 6 (packet_of p).application.0 k) (judged c s store p).events ↔ (ends (slot_at s k) c p ≡ true)
 
 -- the need of an older file of the pair, which a packet that starts a file ends before anything else; 0 if there is none
-abbrev pub need_at : Station → Found → ℕ
-need_at s (At k) = need_of (slot_at s k)
-need_at s Nothing = 0
+abbrev pub need_at : Station → Option ℕ → ℕ
+need_at s (Some k) = need_of (slot_at s k)
+need_at s None = 0
 
 -- "all blocks less the needs of the held files, an older file that it has just ended not counted"
 abbrev pub room_for : Station → Channel → List ℕ → ℕ
@@ -135,7 +133,7 @@ pub record RoomExactly (s : Station) (store : List ℕ) (c : Channel) (p : List 
   -- the check before: "event 8 if all 32 slots are held", and no older file of the pair has just left one
   pub no_slot :
       Among (of 8 (packet_of p).application.0) (judged c s store p).events
-      ↔ ((file_of s c (packet_of p).application ≡ Nothing) × ((k : ℕ) → k < 32 → held (slot_at s k) ≡ true))
+      ↔ ((file_of s c (packet_of p).application ≡ None) × ((k : ℕ) → k < 32 → held (slot_at s k) ≡ true))
   -- "is refused for room exactly if N exceeds .."
   pub no_room :
       (Among (of 8 (packet_of p).application.0) (judged c s store p).events → ⊥)

@@ -1,11 +1,10 @@
 -- What happens to a station, one thing after the other: the packets that a frame brings, the desk that it leaves, and the files that the
 -- user lets go. A run of calls is a list of such things (proofs/Moments.antt), so what holds of each of them holds of every run.
 -- Assumes nothing.
-use Rattle.std.specs.Prelude.{List, [], ◌∷◌, ◌++◌, map, ℕ, eqb, length, take, if◌then◌else◌}
+use Rattle.refusals.specs.declared.Refusal.{Refusal}
+use Rattle.std.specs.Prelude.{List, [], ◌∷◌, ◌++◌, map, ℕ, eqb, length, take, if◌then◌else◌, Result, Ok, Err}
 use Rattle.frame.specs.declared.Accepted.{Accepted}
 use Rattle.frame.specs.declared.Channel.{Channel}
-use Rattle.frame.specs.declared.Examined.{Examined}
-use Rattle.frame.specs.declared.Examined.TheVariants.{Refused, Good}
 use Rattle.frame.specs.Header.{derandomised, zone_of}
 use Rattle.frame.specs.Refusals.{examined}
 use Rattle.state.specs.declared.Desk.{Desk}
@@ -42,16 +41,16 @@ did_all s store (t ∷ ts) =
     after j.events (did_all j.station j.store ts)
 
 -- a frame, examined against the station's set-up
-abbrev pub examined_in : World → List ℕ → Examined
+abbrev pub examined_in : World → List ℕ → Result Accepted Refusal
 examined_in w f = examined w.station.spacecraft (take w.station.channels w.station.watched) f
 
 abbrev pub split_in : World → List ℕ → Accepted → Split
 split_in w f a = split (reading_of w.station w.desks (zone_of (derandomised f)) a).octets
 
 -- the packets of a frame, in order, and then its desk
-abbrev pub framed_things : World → List ℕ → Examined → List Thing
-framed_things w f (Refused n) = []
-framed_things w f (Good a) =
+abbrev pub framed_things : World → List ℕ → Result Accepted Refusal → List Thing
+framed_things w f (Err n) = []
+framed_things w f (Ok a) =
     map (packet (channel_at w.station a.desk)) (split_in w f a).packets
     ++ (left a.desk (desk_after a (length (split_in w f a).left)) ∷ [])
 
@@ -66,9 +65,9 @@ unfoldable pub all_things : World → List Call → List Thing
 all_things w [] = []
 all_things w (c ∷ cs) = things w c ++ all_things (run.after w c) cs
 
-abbrev pub framed_events : World → List ℕ → Examined → List Event
-framed_events w f (Refused n) = []
-framed_events w f (Good a) =
+abbrev pub framed_events : World → List ℕ → Result Accepted Refusal → List Event
+framed_events w f (Err n) = []
+framed_events w f (Ok a) =
     (walked (channel_at w.station a.desk) w.station w.desks w.store (zone_of (derandomised f)) a).events
 
 -- the events that a call gives: a frame that is answered by 0 has them in its list

@@ -33,26 +33,15 @@ const PORTION: usize = 65536;
 const NEVER: u64 = 0x4000000000000000;
 
 // The k that the command's words choose: so many, the program's own name among them, of which this is the first behind it.
+#[tactic(auto, unfolding(crate::specs::Words::chosen_by))]
 fn chosen(words: usize, first: &[u8]) -> u8
     ensures { result ≡ chosen_by words first.now }
 {
-    if words < 2 {
-        return 0;
+    match (words, first) {
+        (0 | 1, _) => 0,
+        (2, [digit @ b'0'..=b'9']) => *digit - b'0',
+        _ => NO_K,
     }
-    if words != 2 {
-        return NO_K;
-    }
-    if first.len() != 1 {
-        return NO_K;
-    }
-    let digit = first[0];
-    if digit < b'0' {
-        return NO_K;
-    }
-    if b'9' < digit {
-        return NO_K;
-    }
-    digit - b'0'
 }
 
 // Where the octets come from, where the frames go, and where the last line goes.
@@ -81,15 +70,11 @@ fn feed(mut output: Stdout, h: Hunter, portion: &[u8], unit: &mut [u8]) -> Given
     let mut frames: u64 = 0;
     loop {
         let r = hunter::hunt(t, &portion[at..], unit);
-        let next = r.hunter;
+        t = r.hunter;
         if !r.found {
-            return Given {
-                frames: frames,
-                hunter: next,
-            };
+            return Given { frames, hunter: t };
         }
         pipes::write_all(&mut output, unit);
-        t = next;
         at += r.taken;
         frames += 1;
     }
@@ -120,8 +105,7 @@ fn follow(streams: Streams, h: Hunter, input: &mut [u8], unit: &mut [u8]) -> Tal
             return all;
         }
         let g = feed(streams.output, t, &input[..n], unit);
-        let next = g.hunter;
-        t = next;
+        t = g.hunter;
         all.read += n as u64;
         all.frames += g.frames;
         all.waiting = t.waiting;
@@ -175,8 +159,7 @@ fn run(
         refusal(streams.errors, b.answer, out);
         return;
     }
-    let fresh = b.hunter;
-    let t = follow(streams, fresh, input, unit);
+    let t = follow(streams, b.hunter, input, unit);
     let passed = passed_over(t);
     end(streams.errors, t.frames, passed, t.waiting as u64, out);
 }
@@ -185,20 +168,13 @@ fn run(
 fn word(rt: HostRuntime, i: usize, octets: &mut [u8]) -> usize
     ensures { result ≤ length octets.new }
 {
-    match rt.arg(i, octets) {
-        Ok(n) => n,
-        Err(_) => 0,
-    }
+    rt.arg(i, octets).unwrap_or(0)
 }
 
 // Whether a word stands there, of whatever length.
 fn is_there(rt: HostRuntime, i: usize) -> bool {
     let mut octets = [0u8; ARGUMENT];
-    match rt.arg(i, &mut octets) {
-        Ok(_) => true,
-        Err(FillError::TooLong) => true,
-        Err(FillError::NotPresent) => false,
-    }
+    !matches!(rt.arg(i, &mut octets), Err(FillError::NotPresent))
 }
 
 // The command's words, the program's own name among them; three stands for every greater number.

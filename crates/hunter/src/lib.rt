@@ -15,25 +15,12 @@ use stream::{Hunted, Hunter, Sought};
 fn is_sound(h: Hunter) -> bool
     ensures { result ≡ is_sound h }
 {
-    if !h.begun {
-        return false;
-    }
-    if Hunter::MOST < h.k {
-        return false;
-    }
     let n = h.waiting as usize;
-    if Frame::SIZE <= n {
-        return false;
-    }
-    let held = h.octets;
-    if n < 4 {
-        return zeros::all_zero(&held, n, Frame::SIZE);
-    }
-    let four = octets::u32_at(&held, 0);
-    if !stream::is_near(four, h.k) {
-        return false;
-    }
-    zeros::all_zero(&held, n, Frame::SIZE)
+    h.begun
+        && h.k <= Hunter::MOST
+        && n < Frame::SIZE
+        && (n < 4 || stream::is_near(octets::u32_at(&h.octets, 0), h.k))
+        && zeros::all_zero(&h.octets, n, Frame::SIZE)
 }
 
 // The four octets of a number, zeros after them.
@@ -41,10 +28,7 @@ fn spread(v: u32) -> [u8; 1024]
     ensures { result ≡ spread_of v }
 {
     let mut out = [0u8; 1024];
-    out[0] = (v / 16777216) as u8;
-    out[1] = (v / 65536 % 256) as u8;
-    out[2] = (v / 256 % 256) as u8;
-    out[3] = (v % 256) as u8;
+    out[..4].copy_from_slice(&v.to_be_bytes());
     out
 }
 
@@ -54,13 +38,13 @@ fn none_found(k: u8, waiting: u16, octets: [u8; 1024], taken: usize) -> Hunted
 {
     Hunted {
         answer: 0,
-        taken: taken,
+        taken,
         found: false,
         hunter: Hunter {
             begun: true,
-            k: k,
-            waiting: waiting,
-            octets: octets,
+            k,
+            waiting,
+            octets,
         },
     }
 }
@@ -71,18 +55,17 @@ fn fill(h: Hunter, portion: &[u8], at: usize, buffer: &mut [u8]) -> Hunted
     ensures { gave_hunt result buffer.new ≡ filled h at portion.now buffer.old }
 {
     let n = h.waiting as usize;
-    let mut held = h.octets;
     let left = portion.len() - at;
     let need = Frame::SIZE - n;
     if left < need {
+        let mut held = h.octets;
         octets::copy(&portion[at..], &mut held, n);
         return none_found(h.k, (n + left) as u16, held, portion.len());
     }
     let end = at + need;
-    octets::copy(&held[..n], buffer, 0);
+    octets::copy(&h.octets[..n], buffer, 0);
     octets::copy(&portion[at..end], buffer, n);
-    let marker = Frame::MARKER;
-    octets::copy(&marker, buffer, 0);
+    octets::copy(&Frame::MARKER, buffer, 0);
     Hunted {
         answer: 0,
         taken: end,
@@ -106,22 +89,17 @@ fn slide(h: Hunter, portion: &[u8], buffer: &mut [u8]) -> Hunted
     let at = 3 - n;
     octets::copy(&portion[..at], &mut held, n);
     let three = octets::u24_at(&held, 0);
-    let s = stream::seek(portion, at, three, h.k);
-    match s {
+    match stream::seek(portion, at, three, h.k) {
         Sought::At(next, four) => {
-            let first = spread(four);
-            let g = Hunter {
+            let begun = Hunter {
                 begun: true,
                 k: h.k,
                 waiting: 4,
-                octets: first,
+                octets: spread(four),
             };
-            return fill(g, portion, next, buffer);
+            fill(begun, portion, next, buffer)
         }
-        Sought::Nowhere(last) => {
-            let first = spread(last << 8);
-            return none_found(h.k, 3, first, portion.len());
-        }
+        Sought::Nowhere(last) => none_found(h.k, 3, spread(last << 8), portion.len()),
     }
 }
 

@@ -1,5 +1,5 @@
 -- Each event that a packet can give, with the exact condition under which it is given ("Packets"). Assumes nothing.
-use Rattle.std.specs.Prelude.{if◌then◌else◌}
+use Rattle.std.specs.Prelude.{if◌then◌else◌, Option, Some, None}
 use mathlib.Core.Path.{◌≡◌, refl, sym, subst}
 use mathlib.Core.Bool.{Bool, true, false}
 use mathlib.Core.Logic.{inl, inr, ⊎_elim, ◌↔◌}
@@ -10,15 +10,12 @@ use borrow.Author.Tests.{eqb-true, eqb-false}
 use lib.Dec.{eqb}
 use Rattle.frame.specs.declared.Channel.{Channel}
 use Rattle.packet.specs.Header.{packet_of}
-use Rattle.transport.specs.declared.Begun.TheVariants.{Wrong, Right}
 use Rattle.transport.specs.declared.Transport.{Transport}
 use Rattle.transport.specs.Length.{need}
 use Rattle.transport.specs.Shape.{begun_of}
 use Rattle.state.specs.declared.Station.{Station}
 use Rattle.state.specs.Slots.{slot_at}
 use Rattle.state.specs.Blocks.{room}
-use Rattle.room.specs.declared.Found.{Found}
-use Rattle.room.specs.declared.Found.TheVariants.{At, Nothing}
 use Rattle.room.specs.Find.{free_slot, file_of}
 use Rattle.events.specs.Event.{Event, of, at, Among}
 use Rattle.judge.specs.Judge.{Judged, data_of, is_intact, begins, goes_on, judged}
@@ -56,21 +53,21 @@ cleared c s p = rid s (file_of s c (packet_of p).application)
 pub record GoesOn (c : Channel) (s : Station) (p : List ℕ) (k : ℕ) : Type 0 where
   pub undamaged : Undamaged p
   pub later : Starting (packet_of p) → ⊥
-  pub file : file_of s c (packet_of p).application ≡ At k
+  pub file : file_of s c (packet_of p).application ≡ Some k
   pub goes : goes_on (slot_at s k) (packet_of p) (data_of p) ≡ true
 
 -- event n is given for slot k, or for slot 0 where an event carries no slot
 pub data Given (c : Channel) (s : Station) (p : List ℕ) : ℕ → ℕ → Type 0 where
   wrong-check : (packet_of p).application.0 ≤ 2015 → is_intact p ≡ false → Given c s p 4 0
-  no-file : Undamaged p → (Starting (packet_of p) → ⊥) → file_of s c (packet_of p).application ≡ Nothing → Given c s p 5 0
+  no-file : Undamaged p → (Starting (packet_of p) → ⊥) → file_of s c (packet_of p).application ≡ None → Given c s p 5 0
   abandoned : {k : ℕ} → Ending c s p k → Given c s p 6 k
-  wrong_start : Undamaged p → Starting (packet_of p) → begun_of (packet_of p).flags (data_of p) ≡ Wrong → Given c s p 7 0
-  all_held : {t : Transport} → Starts p t → free_slot (cleared c s p) ≡ Nothing → Given c s p 8 0
-  too_large : {t : Transport} {k : ℕ} → Starts p t → free_slot (cleared c s p) ≡ At k → room (cleared c s p) < need t.bits → Given c s p 9 0
-  opened : {t : Transport} {k : ℕ} → Starts p t → free_slot (cleared c s p) ≡ At k → need t.bits ≤ room (cleared c s p) → Given c s p 10 k
+  wrong_start : Undamaged p → Starting (packet_of p) → begun_of (packet_of p).flags (data_of p) ≡ None → Given c s p 7 0
+  all_held : {t : Transport} → Starts p t → free_slot (cleared c s p) ≡ None → Given c s p 8 0
+  too_large : {t : Transport} {k : ℕ} → Starts p t → free_slot (cleared c s p) ≡ Some k → room (cleared c s p) < need t.bits → Given c s p 9 0
+  opened : {t : Transport} {k : ℕ} → Starts p t → free_slot (cleared c s p) ≡ Some k → need t.bits ≤ room (cleared c s p) → Given c s p 10 k
   accepted : {k : ℕ} → GoesOn c s p k → ((packet_of p).flags ≡ 2 → ⊥) → Given c s p 11 k
   completed : {k : ℕ} → GoesOn c s p k → (packet_of p).flags ≡ 2 → Given c s p 12 k
-  whole : {t : Transport} {k : ℕ} → Starts p t → free_slot (cleared c s p) ≡ At k → need t.bits ≤ room (cleared c s p)
+  whole : {t : Transport} {k : ℕ} → Starts p t → free_slot (cleared c s p) ≡ Some k → need t.bits ≤ room (cleared c s p)
       → (packet_of p).flags ≡ 3 → Given c s p 12 k
   reserved : 2015 < (packet_of p).application.0 → (packet_of p).application.0 ≤ 2046 → Given c s p 13 0
 
@@ -89,13 +86,13 @@ module _ {c : Channel} {s : Station} {p : List ℕ} where
   only : {e : Event} {n k : ℕ} → Given c s p n k → Among e (at n (packet_of p).application.0 k ∷ []) → Reasoned c s p e
   only g = first g (λ m. absurd (Memᴰ.not-nil m))
 
-  opens-given : {e : Event} {t : Transport} {k : ℕ} → Starts p t → free_slot (cleared c s p) ≡ At k → need t.bits ≤ room (cleared c s p)
+  opens-given : {e : Event} {t : Transport} {k : ℕ} → Starts p t → free_slot (cleared c s p) ≡ Some k → need t.bits ≤ room (cleared c s p)
       → (b : Bool) → eqb (packet_of p).flags 3 ≡ b
       → Among e (at 10 (packet_of p).application.0 k ∷ (if b then at 12 (packet_of p).application.0 k ∷ [] else [])) → Reasoned c s p e
   opens-given g f l true q = first (opened g f l) (only (whole g f l (eqb-true (packet_of p).flags 3 q)))
   opens-given g f l false q = only (opened g f l)
 
-  begins-given : {e : Event} (f : Found) → file_of s c (packet_of p).application ≡ f → Undamaged p → Starting (packet_of p)
+  begins-given : {e : Event} (f : Option ℕ) → file_of s c (packet_of p).application ≡ f → Undamaged p → Starting (packet_of p)
       → {store : List ℕ} {j : Judged} → Begins c (rid s f) store (packet_of p) (data_of p) j → Among e j.events → Reasoned c s p e
   begins-given f q u st (wrong-shape b) = only (wrong_start u st b)
   begins-given f q u st (no_slot b n) = only (all_held (record { undamaged = u; starting = st; right = b }) (rw q n))
@@ -112,9 +109,9 @@ module _ {c : Channel} {s : Station} {p : List ℕ} where
   judges-given (fill l) = λ m. absurd (Memᴰ.not-nil m)
   judges-given (other l n) = only (reserved l n)
   judges-given (damaged l b) = only (wrong-check l b)
-  judges-given (begins-new u st f b) = begins-given Nothing f u st b
+  judges-given (begins-new u st f b) = begins-given None f u st b
   judges-given (begins-over u st {k} f b) =
-      first (abandoned (record { undamaged = u; file = f; why = inl st })) (begins-given (At k) f u st b)
+      first (abandoned (record { undamaged = u; file = f; why = inl st })) (begins-given (Some k) f u st b)
   judges-given (stray u l f) = only (no-file u l f)
   judges-given (goes_onward u l f g) =
       only (next-given (record { undamaged = u; later = l; file = f; goes = g }) (eqb (packet_of p).flags 2) refl)
@@ -127,11 +124,11 @@ module _ (c : Channel) (s : Station) (store p : List ℕ) where
       → Among e (judged c s store p).events
   begun-among {e} u st = by (file_of s c (packet_of p).application) refl
     where
-      by : (f : Found) → file_of s c (packet_of p).application ≡ f
+      by : (f : Option ℕ) → file_of s c (packet_of p).application ≡ f
           → Among e (begins c (rid s f) store (packet_of p) (data_of p) (begun_of (packet_of p).flags (data_of p))).events
           → Among e (judged c s store p).events
-      by Nothing f m = rw (judged-starts c s store p refl u.file u.intact st, starts_none c s store (packet_of p) (data_of p) f) m
-      by (At k) f m =
+      by None f m = rw (judged-starts c s store p refl u.file u.intact st, starts_none c s store (packet_of p) (data_of p) f) m
+      by (Some k) f m =
           rw (judged-starts c s store p refl u.file u.intact st, starts-old c s store (packet_of p) (data_of p) f) (Memᴰ.tail m)
 
   abandons : {k : ℕ} → Ending c s p k → Dec (Starting (packet_of p)) → Among (at 6 (packet_of p).application.0 k) (judged c s store p).events
@@ -193,11 +190,11 @@ module _ (c : Channel) (s : Station) (store p : List ℕ) where
 
   -- a packet that passes every check before is opened for, event 10, or gets event 9: as its need is within the free blocks, the older
   -- file's among them, or exceeds them
-  module _ {t : Transport} {k : ℕ} (g : Starts p t) (f : free_slot (cleared c s p) ≡ At k) where
+  module _ {t : Transport} {k : ℕ} (g : Starts p t) (f : free_slot (cleared c s p) ≡ Some k) where
     same_start : {t' : Transport} → Starts p t' → t' ≡ t
     same_start {t'} g' =
-        let a : begun_of (packet_of p).flags (data_of p) ≡ Right t = g.right in
-        let b : begun_of (packet_of p).flags (data_of p) ≡ Right t' = g'.right in
+        let a : begun_of (packet_of p).flags (data_of p) ≡ Some t = g.right in
+        let b : begun_of (packet_of p).flags (data_of p) ≡ Some t' = g'.right in
         cc
 
     pub too-large-exactly : Among (of 9 (packet_of p).application.0) (judged c s store p).events ↔ (room (cleared c s p) < need t.bits)

@@ -1,4 +1,5 @@
 -- What a packet leaves as it was, and that it keeps a sound state sound. Assumes nothing.
+use Rattle.std.specs.Prelude.{Some, None}
 use mathlib.Core.Path.{◌≡◌, refl, ap, ◌∙◌}
 use mathlib.Core.Bool.{true, not}
 use mathlib.Core.List.{List}
@@ -17,13 +18,11 @@ use Rattle.packet.specs.Header.{packet_of}
 use Rattle.transport.specs.declared.Transport.{Transport}
 use Rattle.transport.specs.Length.{need}
 use Rattle.transport.specs.Shape.{begun_of}
-use Rattle.transport.specs.declared.Begun.TheVariants.{Right}
 use Rattle.state.specs.declared.Slot.{Slot}
 use Rattle.state.specs.declared.Station.{Station}
 use Rattle.state.specs.Slots.{slot_at, held, incomplete, need_of, of_pair}
 use Rattle.state.specs.Blocks.{blocks_of, room}
 use Rattle.state.specs.Sound.{Sized, Sound, DesksSound}
-use Rattle.room.specs.declared.Found.TheVariants.{At, Nothing}
 use Rattle.room.specs.Find.{free_slot, file_of}
 use Rattle.room.specs.Move.{opened}
 use Rattle.room.proofs.Find.{free-at, file-at}
@@ -163,7 +162,7 @@ unfolding packet_of
 packet-count p = bits_at-below (take 6 p) 18 14
 
 module _ {s : Station} (z : Sized s) (S : Sound s) where
-  pub file-going : (c : Channel) (a : Application) {k : ℕ} → file_of s c a ≡ At k → Going s c a k
+  pub file-going : (c : Channel) (a : Application) {k : ℕ} → file_of s c a ≡ Some k → Going s c a k
   file-going c a {k} e =
       let f = file-at s c a k e in
       let low : k < 32 = omega (arith, f.low, z.slots) in
@@ -180,8 +179,8 @@ module _ {s : Station} (z : Sized s) (S : Sound s) where
 
   module _ {c : Channel} (h : Packet) (count : h.count.0 < 16384) where
     -- a file that begins, of a pair that has no other
-    pub first_opening : Watched s c → h.application.0 ≤ 2015 → file_of s c h.application ≡ Nothing
-        → (d : List ℕ) {t : Transport} {k : ℕ} → begun_of h.flags d ≡ Right t → free_slot s ≡ At k → need t.bits ≤ room s
+    pub first_opening : Watched s c → h.application.0 ≤ 2015 → file_of s c h.application ≡ None
+        → (d : List ℕ) {t : Transport} {k : ℕ} → begun_of h.flags d ≡ Some t → free_slot s ≡ Some k → need t.bits ≤ room s
         → Opening s k (first_slot c h t)
     first_opening w l n d {t} {k} e f fits =
         let right = begun-right h.flags d e in
@@ -217,7 +216,7 @@ module _ {s : Station} (z : Sized s) (S : Sound s) where
           going = λ i. g.incomplete;
         }
 
-    begins-sound : Watched s c → h.application.0 ≤ 2015 → file_of s c h.application ≡ Nothing
+    begins-sound : Watched s c → h.application.0 ≤ 2015 → file_of s c h.application ≡ None
         → {store d : List ℕ} {j : Judged} → Begins c s store h d j → Sound j.station
     begins-sound w l n (wrong-shape e) = S
     begins-sound w l n (no_slot e f) = S

@@ -1,6 +1,6 @@
 -- How many events packets give at most, counted with the files that they end. Event 6 wants an incomplete file, and a packet that lies in one
 -- zone is too short to leave a new one: it has seven octets for each event, but for five that an incomplete file less is worth. Assumes nothing.
-use Rattle.std.specs.Prelude.{if◌then◌else◌}
+use Rattle.std.specs.Prelude.{if◌then◌else◌, Some}
 use mathlib.Core.Path.{◌≡◌, refl, sym, subst, ◌∙◌}
 use mathlib.Core.Bool.{Bool, true, false, and-false}
 use mathlib.Core.Logic.{⊎_elim}
@@ -15,14 +15,12 @@ use Rattle.octets.proofs.Lists.{if-cases}
 use Rattle.frame.specs.declared.Channel.{Channel}
 use Rattle.packet.specs.declared.Packet.{Packet}
 use Rattle.packet.specs.Header.{packet_of}
-use Rattle.transport.specs.declared.Begun.TheVariants.{Right}
 use Rattle.transport.specs.declared.Transport.{Transport}
 use Rattle.transport.specs.Shape.{begun_of}
 use Rattle.state.specs.declared.Slot.{Slot}
 use Rattle.state.specs.declared.Station.{Station}
 use Rattle.state.specs.Slots.{no_file, slot_at, held, incomplete, need_of}
 use Rattle.state.specs.Sound.{Sized}
-use Rattle.room.specs.declared.Found.TheVariants.{At}
 use Rattle.room.specs.Find.{free_slot}
 use Rattle.room.specs.Move.{opened}
 use Rattle.room.proofs.Find.{free-at, file-at}
@@ -87,7 +85,7 @@ at_most_one true = omega arith
 at_most_one false = omega arith
 
 -- a file opened by a packet that is no first one of 8,190 octets is complete at once
-opens-complete : (c : Channel) (s : Station) (h : Packet) (d : List ℕ) {t : Transport} {k : ℕ} → begun_of h.flags d ≡ Right t → free_slot s ≡ At k
+opens-complete : (c : Channel) (s : Station) (h : Packet) (d : List ℕ) {t : Transport} {k : ℕ} → begun_of h.flags d ≡ Some t → free_slot s ≡ Some k
     → (h.flags ≡ 1 → length d ≡ 8190 → ⊥) → going (opened s k (first_slot c h t)).slots ≡ going s.slots
 opens-complete c s h d {t} {k} e f short =
     let r = begun-right h.flags d e in

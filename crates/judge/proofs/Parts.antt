@@ -1,5 +1,5 @@
 -- What a packet does, case by case, so that no proof has to open the definitions; and what is known in each case. Assumes nothing.
-use Rattle.std.specs.Prelude.{if◌then◌else◌}
+use Rattle.std.specs.Prelude.{if◌then◌else◌, Option, Some, None}
 use mathlib.Core.Path.{◌≡◌, refl, sym, subst, ◌∙◌}
 use mathlib.Core.Bool.{Bool, true, false, not, ◌&&◌}
 use mathlib.Core.Logic.{◌⊎◌, inl, inr, ⊎_elim}
@@ -21,8 +21,6 @@ use Rattle.packet.specs.declared.Packet.{Packet}
 use Rattle.packet.specs.Kinds.{next_count, count_follows}
 use Rattle.packet.specs.Header.{packet_of}
 use Rattle.packet.proofs.Looks.{Header, look-good}
-use Rattle.transport.specs.declared.Begun.{Begun}
-use Rattle.transport.specs.declared.Begun.TheVariants.{Wrong, Right}
 use Rattle.transport.specs.declared.Transport.{Transport}
 use Rattle.transport.specs.Length.{transport_of, good_length, transport_size, need, rest}
 use Rattle.transport.specs.Shape.{first_fits, whole_fits, middle_fits, last_fits, fits, begun_of}
@@ -32,8 +30,6 @@ use Rattle.state.specs.declared.Slot.{Slot}
 use Rattle.state.specs.declared.Station.{Station}
 use Rattle.state.specs.Slots.{slot_at, need_of}
 use Rattle.state.specs.Blocks.{room}
-use Rattle.room.specs.declared.Found.{Found}
-use Rattle.room.specs.declared.Found.TheVariants.{At, Nothing}
 use Rattle.room.specs.Find.{free_slot, file_of}
 use Rattle.room.specs.Move.{with_file, opened, let_go}
 use Rattle.events.specs.Event.{Event, of, at}
@@ -61,43 +57,43 @@ module _ (c : Channel) (s : Station) (store : List ℕ) (h : Packet) (d : List �
       (at 10 h.application.0 k ∷ at 12 h.application.0 k ∷ [])
   opens-whole k t e = opens_as k t ∙ rw (eq-eqb h.flags 3 e)
 
-  module _ {b : Begun} where
-    pub begins-wrong : b ≡ Wrong → begins c s store h d b ≡ gives s store (of 7 h.application.0 ∷ [])
+  module _ {b : Option Transport} where
+    pub begins-wrong : b ≡ None → begins c s store h d b ≡ gives s store (of 7 h.application.0 ∷ [])
     unfolding begins
     begins-wrong e = rw e
 
-    module _ {t : Transport} (e : b ≡ Right t) where
-      pub begins-no-slot : free_slot s ≡ Nothing → begins c s store h d b ≡ gives s store (of 8 h.application.0 ∷ [])
+    module _ {t : Transport} (e : b ≡ Some t) where
+      pub begins-no-slot : free_slot s ≡ None → begins c s store h d b ≡ gives s store (of 8 h.application.0 ∷ [])
       unfolding begins placed
       begins-no-slot f = rw (e, f)
 
-      pub begins-no-room : {k : ℕ} → free_slot s ≡ At k → room s < need t.bits
+      pub begins-no-room : {k : ℕ} → free_slot s ≡ Some k → room s < need t.bits
           → begins c s store h d b ≡ gives s store (of 9 h.application.0 ∷ [])
       unfolding begins placed
       begins-no-room f l = rw (e, f, lt-ltb (room s) (need t.bits) l)
 
-      pub begins-opens : {k : ℕ} → free_slot s ≡ At k → need t.bits ≤ room s → begins c s store h d b ≡ opens c s store h d k t
+      pub begins-opens : {k : ℕ} → free_slot s ≡ Some k → need t.bits ≤ room s → begins c s store h d b ≡ opens c s store h d k t
       unfolding begins placed
       begins-opens f l = rw (e, f, le-ltb (room s) (need t.bits) l)
 
   -- "Flags 1 (first) or 3 (whole)"
-  module _ {f : Found} where
-    pub starts_none : f ≡ Nothing → starts c s store h d f ≡ begins c s store h d (begun_of h.flags d)
+  module _ {f : Option ℕ} where
+    pub starts_none : f ≡ None → starts c s store h d f ≡ begins c s store h d (begun_of h.flags d)
     unfolding starts
     starts_none e = rw e
 
-    pub starts-old : {k : ℕ} → f ≡ At k
+    pub starts-old : {k : ℕ} → f ≡ Some k
         → starts c s store h d f ≡ after (at 6 h.application.0 k ∷ []) (begins c (let_go s k) store h d (begun_of h.flags d))
     unfolding starts
     starts-old e = rw e
 
 -- "Flags 0 (middle) or 2 (last)"
-module _ (s : Station) (store : List ℕ) (h : Packet) (d : List ℕ) {f : Found} where
-  pub continues-none : f ≡ Nothing → continues s store h d f ≡ gives s store (of 5 h.application.0 ∷ [])
+module _ (s : Station) (store : List ℕ) (h : Packet) (d : List ℕ) {f : Option ℕ} where
+  pub continues-none : f ≡ None → continues s store h d f ≡ gives s store (of 5 h.application.0 ∷ [])
   unfolding continues
   continues-none e = rw e
 
-  module _ {k : ℕ} (e : f ≡ At k) where
+  module _ {k : ℕ} (e : f ≡ Some k) where
     pub continues-ends : goes_on (slot_at s k) h d ≡ false → continues s store h d f ≡ gives (let_go s k) store (at 6 h.application.0 k ∷ [])
     unfolding continues
     continues-ends g = rw (e, g)
@@ -142,7 +138,7 @@ module _ (c : Channel) (s : Station) (store p : List ℕ) {h : Packet} (read : h
     judged-by : {b : Bool} → is_intact p ≡ b
         → judged c s store p ≡ (if b then filed c s store h (data_of p) else gives s store (of 4 h.application.0 ∷ []))
     unfolding judged judged_as
-    judged-by e = rw (← read, le-leb h.application.0 2015 file, e)
+    judged-by e = rw (← read, le-leb h.application.0 2015 file, e) refl
 
     pub judged-damaged : is_intact p ≡ false → judged c s store p ≡ gives s store (of 4 h.application.0 ∷ [])
     judged-damaged e = judged-by e
@@ -156,12 +152,12 @@ module _ (c : Channel) (s : Station) (store p : List ℕ) {h : Packet} (read : h
 
 -- what becomes of a file that begins: every case, with what is known in it
 pub data Begins (c : Channel) (s : Station) (store : List ℕ) (h : Packet) (d : List ℕ) : Judged → Type 0 where
-  wrong-shape : begun_of h.flags d ≡ Wrong → Begins c s store h d (gives s store (of 7 h.application.0 ∷ []))
-  no_slot : {t : Transport} → begun_of h.flags d ≡ Right t → free_slot s ≡ Nothing
+  wrong-shape : begun_of h.flags d ≡ None → Begins c s store h d (gives s store (of 7 h.application.0 ∷ []))
+  no_slot : {t : Transport} → begun_of h.flags d ≡ Some t → free_slot s ≡ None
       → Begins c s store h d (gives s store (of 8 h.application.0 ∷ []))
-  no_room : {t : Transport} {k : ℕ} → begun_of h.flags d ≡ Right t → free_slot s ≡ At k → room s < need t.bits
+  no_room : {t : Transport} {k : ℕ} → begun_of h.flags d ≡ Some t → free_slot s ≡ Some k → room s < need t.bits
       → Begins c s store h d (gives s store (of 9 h.application.0 ∷ []))
-  opens_at : {t : Transport} {k : ℕ} → begun_of h.flags d ≡ Right t → free_slot s ≡ At k → need t.bits ≤ room s
+  opens_at : {t : Transport} {k : ℕ} → begun_of h.flags d ≡ Some t → free_slot s ≡ Some k → need t.bits ≤ room s
       → Begins c s store h d
       (gives (opened s k (first_slot c h t)) (written (opened s k (first_slot c h t)) k 0 d store) (open_events h k))
 
@@ -172,19 +168,19 @@ pub data Judges (c : Channel) (s : Station) (store p : List ℕ) : Judged → Ty
       → Judges c s store p (gives s store (of 13 (packet_of p).application.0 ∷ []))
   damaged : (packet_of p).application.0 ≤ 2015 → is_intact p ≡ false
       → Judges c s store p (gives s store (of 4 (packet_of p).application.0 ∷ []))
-  begins-new : Undamaged p → Starting (packet_of p) → file_of s c (packet_of p).application ≡ Nothing
+  begins-new : Undamaged p → Starting (packet_of p) → file_of s c (packet_of p).application ≡ None
       → {j : Judged} → Begins c s store (packet_of p) (data_of p) j → Judges c s store p j
-  begins-over : Undamaged p → Starting (packet_of p) → {k : ℕ} → file_of s c (packet_of p).application ≡ At k
+  begins-over : Undamaged p → Starting (packet_of p) → {k : ℕ} → file_of s c (packet_of p).application ≡ Some k
       → {j : Judged} → Begins c (let_go s k) store (packet_of p) (data_of p) j
       → Judges c s store p (after (at 6 (packet_of p).application.0 k ∷ []) j)
-  stray : Undamaged p → (Starting (packet_of p) → ⊥) → file_of s c (packet_of p).application ≡ Nothing
+  stray : Undamaged p → (Starting (packet_of p) → ⊥) → file_of s c (packet_of p).application ≡ None
       → Judges c s store p (gives s store (of 5 (packet_of p).application.0 ∷ []))
-  goes_onward : Undamaged p → (Starting (packet_of p) → ⊥) → {k : ℕ} → file_of s c (packet_of p).application ≡ At k
+  goes_onward : Undamaged p → (Starting (packet_of p) → ⊥) → {k : ℕ} → file_of s c (packet_of p).application ≡ Some k
       → goes_on (slot_at s k) (packet_of p) (data_of p) ≡ true
       → Judges c s store p
       (gives (with_file s s.owner k (next_slot (slot_at s k) (packet_of p))) (written s k (slot_at s k).accepted (data_of p) store)
       (at (next_kind (packet_of p)) (packet_of p).application.0 k ∷ []))
-  breaks-off : Undamaged p → (Starting (packet_of p) → ⊥) → {k : ℕ} → file_of s c (packet_of p).application ≡ At k
+  breaks-off : Undamaged p → (Starting (packet_of p) → ⊥) → {k : ℕ} → file_of s c (packet_of p).application ≡ Some k
       → goes_on (slot_at s k) (packet_of p) (data_of p) ≡ false
       → Judges c s store p (gives (let_go s k) store (at 6 (packet_of p).application.0 k ∷ []))
 
@@ -192,7 +188,7 @@ pub begins-as : (c : Channel) (s : Station) (store : List ℕ) (h : Packet) (d :
     → Begins c s store h d (begins c s store h d (begun_of h.flags d))
 begins-as c s store h d = by (begun_of h.flags d) refl
   where
-    fitting : (t : Transport) → begun_of h.flags d ≡ Right t → (k : ℕ) → free_slot s ≡ At k → (b : Bool) → ltb (room s) (need t.bits) ≡ b
+    fitting : (t : Transport) → begun_of h.flags d ≡ Some t → (k : ℕ) → free_slot s ≡ Some k → (b : Bool) → ltb (room s) (need t.bits) ≡ b
         → Begins c s store h d (begins c s store h d (begun_of h.flags d))
     fitting t e k f true l =
         let m = ltb-true (room s) (need t.bits) l in
@@ -201,14 +197,14 @@ begins-as c s store h d = by (begun_of h.flags d) refl
         let m = ltb-false (room s) (need t.bits) l in
         rw (begins-opens c s store h d e f m, opens_as c s store h d k t) (opens_at e f m)
 
-    placing : (t : Transport) → begun_of h.flags d ≡ Right t → (f : Found) → free_slot s ≡ f
+    placing : (t : Transport) → begun_of h.flags d ≡ Some t → (f : Option ℕ) → free_slot s ≡ f
         → Begins c s store h d (begins c s store h d (begun_of h.flags d))
-    placing t e Nothing f = rw (begins-no-slot c s store h d e f) (no_slot e f)
-    placing t e (At k) f = fitting t e k f (ltb (room s) (need t.bits)) refl
+    placing t e None f = rw (begins-no-slot c s store h d e f) (no_slot e f)
+    placing t e (Some k) f = fitting t e k f (ltb (room s) (need t.bits)) refl
 
-    by : (b : Begun) → begun_of h.flags d ≡ b → Begins c s store h d (begins c s store h d (begun_of h.flags d))
-    by Wrong e = rw (begins-wrong c s store h d e) (wrong-shape e)
-    by (Right t) e = placing t e (free_slot s) refl
+    by : (b : Option Transport) → begun_of h.flags d ≡ b → Begins c s store h d (begins c s store h d (begun_of h.flags d))
+    by None e = rw (begins-wrong c s store h d e) (wrong-shape e)
+    by (Some t) e = placing t e (free_slot s) refl
 
 pub starting : (h : Packet) → Dec (Starting h)
 starting h =
@@ -226,25 +222,25 @@ judges-as c s store p = by (leb a 2015) (leb a 2046) (is_intact p) refl refl ref
     a : ℕ
     a = h.application.0
 
-    starts_with : Undamaged p → Starting h → (f : Found) → file_of s c h.application ≡ f → Judges c s store p (judged c s store p)
-    starts_with u e Nothing f =
+    starts_with : Undamaged p → Starting h → (f : Option ℕ) → file_of s c h.application ≡ f → Judges c s store p (judged c s store p)
+    starts_with u e None f =
         rw (judged-starts c s store p refl u.file u.intact e, starts_none c s store h (data_of p) f)
         (begins-new u e f (begins-as c s store h (data_of p)))
-    starts_with u e (At k) f =
+    starts_with u e (Some k) f =
         rw (judged-starts c s store p refl u.file u.intact e, starts-old c s store h (data_of p) f)
         (begins-over u e f (begins-as c (let_go s k) store h (data_of p)))
 
-    goes_with : Undamaged p → (Starting h → ⊥) → (k : ℕ) → file_of s c h.application ≡ At k
+    goes_with : Undamaged p → (Starting h → ⊥) → (k : ℕ) → file_of s c h.application ≡ Some k
         → (b : Bool) → goes_on (slot_at s k) h (data_of p) ≡ b → Judges c s store p (judged c s store p)
     goes_with u e k f true g =
         rw (judged-later c s store p refl u.file u.intact e, continues-as s store h (data_of p) f g) (goes_onward u e f g)
     goes_with u e k f false g =
         rw (judged-later c s store p refl u.file u.intact e, continues-ends s store h (data_of p) f g) (breaks-off u e f g)
 
-    later-with : Undamaged p → (Starting h → ⊥) → (f : Found) → file_of s c h.application ≡ f → Judges c s store p (judged c s store p)
-    later-with u e Nothing f =
+    later-with : Undamaged p → (Starting h → ⊥) → (f : Option ℕ) → file_of s c h.application ≡ f → Judges c s store p (judged c s store p)
+    later-with u e None f =
         rw (judged-later c s store p refl u.file u.intact e, continues-none s store h (data_of p) f) (stray u e f)
-    later-with u e (At k) f = goes_with u e k f (goes_on (slot_at s k) h (data_of p)) refl
+    later-with u e (Some k) f = goes_with u e k f (goes_on (slot_at s k) h (data_of p)) refl
 
     filed-as : Undamaged p → Judges c s store p (judged c s store p)
     filed-as u =
@@ -306,11 +302,11 @@ pub record RightStart (flags : ℕ) (d : List ℕ) (t : Transport) : Type 0 wher
   pub few : length d ≤ 8190
   pub some : 1 ≤ need t.bits
 
-abbrev RightIf : ℕ → List ℕ → Begun → Type 0
-RightIf flags d Wrong = Unit {0}
-RightIf flags d (Right t) = RightStart flags d t
+abbrev RightIf : ℕ → List ℕ → Option Transport → Type 0
+RightIf flags d None = Unit {0}
+RightIf flags d (Some t) = RightStart flags d t
 
-pub begun-right : (flags : ℕ) (d : List ℕ) {t : Transport} → begun_of flags d ≡ Right t → RightStart flags d t
+pub begun-right : (flags : ℕ) (d : List ℕ) {t : Transport} → begun_of flags d ≡ Some t → RightStart flags d t
 unfolding begun_of first_fits whole_fits
 begun-right flags d e = subst (RightIf flags d) e right
   where
@@ -345,7 +341,7 @@ begun-right flags d e = subst (RightIf flags d) e right
         if-cases (RightIf flags d) (eqb flags 1 && first_fits (length d) L) (first l g)
         (λ e. if-cases (RightIf flags d) (eqb flags 3 && whole_fits (length d) L) (whole l g) (λ e. tt))))
 
-pub right-begun : (flags : ℕ) (d : List ℕ) {t : Transport} → RightStart flags d t → begun_of flags d ≡ Right t
+pub right-begun : (flags : ℕ) (d : List ℕ) {t : Transport} → RightStart flags d t → begun_of flags d ≡ Some t
 unfolding first_fits whole_fits
 right-begun flags d {t} r =
     sym

@@ -1,5 +1,5 @@
 -- What is decided of a packet: doing it is what the packet does, and what is known where something is done to a file. Assumes nothing.
-use Rattle.std.specs.Prelude.{if◌then◌else◌}
+use Rattle.std.specs.Prelude.{if◌then◌else◌, Option, Some, None}
 use mathlib.Core.Path.{◌≡◌, refl, sym, subst, ap, ap₂, ◌∙◌}
 use mathlib.Core.Bool.{true, false}
 use mathlib.Core.List.{List, [], ◌∷◌}
@@ -16,8 +16,6 @@ use Rattle.packet.specs.declared.Kind.{Kind}
 use Rattle.packet.specs.declared.Kind.TheVariants.{File, Other, Fill}
 use Rattle.packet.specs.Kinds.{kind_of}
 use Rattle.packet.specs.Header.{packet_of}
-use Rattle.transport.specs.declared.Begun.{Begun}
-use Rattle.transport.specs.declared.Begun.TheVariants.{Wrong, Right}
 use Rattle.transport.specs.declared.Transport.{Transport}
 use Rattle.transport.specs.Length.{need}
 use Rattle.transport.specs.Shape.{begun_of}
@@ -25,8 +23,6 @@ use Rattle.state.specs.declared.Slot.{Slot}
 use Rattle.state.specs.declared.Station.{Station}
 use Rattle.state.specs.Slots.{no_file, slot_at}
 use Rattle.state.specs.Blocks.{needs, room}
-use Rattle.room.specs.declared.Found.{Found}
-use Rattle.room.specs.declared.Found.TheVariants.{At, Nothing}
 use Rattle.room.specs.Find.{free_from, free_slot, file_from, file_of}
 use Rattle.room.specs.Move.{let_go}
 use Rattle.judge.specs.declared.Place.{Place}
@@ -40,15 +36,15 @@ use Rattle.judge.specs.Ruling.{place_at, place_of, new_ruling, start_ruling, nex
 
 -- a file that begins
 module _ (c : Channel) (s : Station) (store : List ℕ) (h : Packet) (d : List ℕ) where
-  placed-is : (t : Transport) (f : Found) → placed c s store h d t f ≡ placed_as c s store h d (place_at s.blocks s.slots t f)
+  placed-is : (t : Transport) (f : Option ℕ) → placed c s store h d t f ≡ placed_as c s store h d (place_at s.blocks s.slots t f)
   unfolding placed place_at placed_as
-  placed-is t Nothing = refl
-  placed-is t (At k) = sym (if-map (placed_as c s store h d) (ltb (room s) (need t.bits)) (Denied 9) (Granted k t))
+  placed-is t None = refl
+  placed-is t (Some k) = sym (if-map (placed_as c s store h d) (ltb (room s) (need t.bits)) (Denied 9) (Granted k t))
 
-  begins-is : (b : Begun) → begins c s store h d b ≡ placed_as c s store h d (place_of s.blocks s.slots b)
+  begins-is : (b : Option Transport) → begins c s store h d b ≡ placed_as c s store h d (place_of s.blocks s.slots b)
   unfolding begins place_of placed_as free_slot
-  begins-is Wrong = refl
-  begins-is (Right t) = placed-is t (free_slot s)
+  begins-is None = refl
+  begins-is (Some t) = placed-is t (free_slot s)
 
   new_is : (p : Place) → placed_as c s store h d p ≡ ruled c s store h d (new_ruling p)
   unfolding placed_as ruled acted new_ruling
@@ -56,17 +52,17 @@ module _ (c : Channel) (s : Station) (store : List ℕ) (h : Packet) (d : List �
   new_is (Granted k t) = refl
 
 module _ (c : Channel) (s : Station) (store : List ℕ) (h : Packet) (d : List ℕ) where
-  starts_is : (f : Found) → starts c s store h d f ≡ ruled c s store h d (start_ruling s.blocks s.slots (begun_of h.flags d) f)
+  starts_is : (f : Option ℕ) → starts c s store h d f ≡ ruled c s store h d (start_ruling s.blocks s.slots (begun_of h.flags d) f)
   unfolding starts start_ruling ruled acted let_go
-  starts_is Nothing =
+  starts_is None =
       begins-is c s store h d (begun_of h.flags d) ∙ new_is c s store h d (place_of s.blocks s.slots (begun_of h.flags d))
-  starts_is (At k) =
+  starts_is (Some k) =
       ap (after (at 6 h.application.0 k ∷ [])) (begins-is c (let_go s k) store h d (begun_of h.flags d))
 
-  continues-is : (f : Found) → continues s store h d f ≡ ruled c s store h d (next_ruling s.slots h d f)
+  continues-is : (f : Option ℕ) → continues s store h d f ≡ ruled c s store h d (next_ruling s.slots h d f)
   unfolding continues next_ruling ruled acted
-  continues-is Nothing = refl
-  continues-is (At k) = sym (if-map (ruled c s store h d) (goes_on (slot_at s k) h d) (Does (GoesOn k)) (Does (Ends k)))
+  continues-is None = refl
+  continues-is (Some k) = sym (if-map (ruled c s store h d) (goes_on (slot_at s k) h d) (Does (GoesOn k)) (Does (Ends k)))
 
   filed-is : filed c s store h d ≡ ruled c s store h d (file_ruling c s.blocks s.slots h d)
   unfolding filed file_ruling file_of
@@ -110,17 +106,17 @@ module _ (c : Channel) (s : Station) (store p : List ℕ) where
   ruled-does read cut e = judged-is ∙ rw (e, ← read, ← cut)
 
 -- the decision, test after test
-module _ (blocks : ℕ) (slots : List Slot) {b : Begun} where
-  pub place-wrong : b ≡ Wrong → Denied 7 ≡ place_of blocks slots b
+module _ (blocks : ℕ) (slots : List Slot) {b : Option Transport} where
+  pub place-wrong : b ≡ None → Denied 7 ≡ place_of blocks slots b
   unfolding place_of
   place-wrong e = rw e
 
-  module _ {t : Transport} (e : b ≡ Right t) where
-    pub place-full : free_from 0 slots ≡ Nothing → Denied 8 ≡ place_of blocks slots b
+  module _ {t : Transport} (e : b ≡ Some t) where
+    pub place-full : free_from 0 slots ≡ None → Denied 8 ≡ place_of blocks slots b
     unfolding place_of place_at
     place-full f = rw (e, f)
 
-    module _ {k : ℕ} (f : free_from 0 slots ≡ At k) where
+    module _ {k : ℕ} (f : free_from 0 slots ≡ Some k) where
       pub place_short : blocks - needs slots < need t.bits → Denied 9 ≡ place_of blocks slots b
       unfolding place_of place_at
       place_short l = rw (e, f, lt-ltb (blocks - needs slots) (need t.bits) l)
@@ -138,31 +134,31 @@ unfolding new_ruling
 new-granted e = rw e
 
 module _ (slots : List Slot) (h : Packet) (d : List ℕ) (k : ℕ) where
-  pub next-goes : goes_on (get_or slots k no_file) h d ≡ true → Does (GoesOn k) ≡ next_ruling slots h d (At k)
+  pub next-goes : goes_on (get_or slots k no_file) h d ≡ true → Does (GoesOn k) ≡ next_ruling slots h d (Some k)
   unfolding next_ruling
   next-goes e = rw e
 
-  pub next-ends : goes_on (get_or slots k no_file) h d ≡ false → Does (Ends k) ≡ next_ruling slots h d (At k)
+  pub next-ends : goes_on (get_or slots k no_file) h d ≡ false → Does (Ends k) ≡ next_ruling slots h d (Some k)
   unfolding next_ruling
   next-ends e = rw e
 
-module _ (c : Channel) (blocks : ℕ) (slots : List Slot) (h : Packet) (d : List ℕ) {f : Found}
+module _ (c : Channel) (blocks : ℕ) (slots : List Slot) (h : Packet) (d : List ℕ) {f : Option ℕ}
     (found : f ≡ file_from 0 c h.application slots) where
-  pub file-new : {r : Ruling} → starts_file h ≡ true → f ≡ Nothing → r ≡ new_ruling (place_of blocks slots (begun_of h.flags d))
+  pub file-new : {r : Ruling} → starts_file h ≡ true → f ≡ None → r ≡ new_ruling (place_of blocks slots (begun_of h.flags d))
       → r ≡ file_ruling c blocks slots h d
   unfolding file_ruling start_ruling
   file-new e n q = rw (e, ← found, n) q
 
-  pub file-over : {r : Ruling} → starts_file h ≡ true → {k : ℕ} → f ≡ At k → r ≡ Does (Over k (place_of blocks (set slots k no_file) (begun_of h.flags d)))
+  pub file-over : {r : Ruling} → starts_file h ≡ true → {k : ℕ} → f ≡ Some k → r ≡ Does (Over k (place_of blocks (set slots k no_file) (begun_of h.flags d)))
       → r ≡ file_ruling c blocks slots h d
   unfolding file_ruling start_ruling
   file-over e n q = rw (e, ← found, n) q
 
-  pub file-stray : starts_file h ≡ false → f ≡ Nothing → Says 5 ≡ file_ruling c blocks slots h d
+  pub file-stray : starts_file h ≡ false → f ≡ None → Says 5 ≡ file_ruling c blocks slots h d
   unfolding file_ruling next_ruling
   file-stray e n = rw (e, ← found, n)
 
-  pub file-next : {r : Ruling} → starts_file h ≡ false → {k : ℕ} → f ≡ At k → r ≡ next_ruling slots h d (At k) → r ≡ file_ruling c blocks slots h d
+  pub file-next : {r : Ruling} → starts_file h ≡ false → {k : ℕ} → f ≡ Some k → r ≡ next_ruling slots h d (Some k) → r ≡ file_ruling c blocks slots h d
   unfolding file_ruling
   file-next e n q = rw (e, ← found, n) q
 
@@ -185,30 +181,30 @@ module _ (c : Channel) (blocks : ℕ) (slots : List Slot) (p : List ℕ) {h : Pa
     ruling-file e q = rw (← read, le-leb h.application.0 2015 file, e) q
 
 -- a file that begins has a place
-pub record Placed (blocks : ℕ) (slots : List Slot) (b : Begun) (k : ℕ) (t : Transport) : Type 0 where
-  pub right : b ≡ Right t
-  pub free : free_from 0 slots ≡ At k
+pub record Placed (blocks : ℕ) (slots : List Slot) (b : Option Transport) (k : ℕ) (t : Transport) : Type 0 where
+  pub right : b ≡ Some t
+  pub free : free_from 0 slots ≡ Some k
   pub fits : need t.bits ≤ blocks - needs slots
 
-abbrev IfGranted : ℕ → List Slot → Begun → Place → Type 0
+abbrev IfGranted : ℕ → List Slot → Option Transport → Place → Type 0
 IfGranted blocks slots b (Denied n) = Unit {0}
 IfGranted blocks slots b (Granted k t) = Placed blocks slots b k t
 
-pub place-known : (blocks : ℕ) (slots : List Slot) (b : Begun) → IfGranted blocks slots b (place_of blocks slots b)
+pub place-known : (blocks : ℕ) (slots : List Slot) (b : Option Transport) → IfGranted blocks slots b (place_of blocks slots b)
 unfolding place_of place_at
 place-known blocks slots b = by b refl
   where
-    found : (t : Transport) → b ≡ Right t → (f : Found) → free_from 0 slots ≡ f → IfGranted blocks slots b (place_at blocks slots t f)
-    found t e Nothing q = tt
-    found t e (At k) q =
+    found : (t : Transport) → b ≡ Some t → (f : Option ℕ) → free_from 0 slots ≡ f → IfGranted blocks slots b (place_at blocks slots t f)
+    found t e None q = tt
+    found t e (Some k) q =
         if-cases (IfGranted blocks slots b) (ltb (blocks - needs slots) (need t.bits)) (λ _. tt)
         (λ l. record { right = e; free = q; fits = ltb-false (blocks - needs slots) (need t.bits) l })
 
-    by : (b' : Begun) → b ≡ b' → IfGranted blocks slots b (place_of blocks slots b')
-    by Wrong e = tt
-    by (Right t) e = found t e (free_from 0 slots) refl
+    by : (b' : Option Transport) → b ≡ b' → IfGranted blocks slots b (place_of blocks slots b')
+    by None e = tt
+    by (Some t) e = found t e (free_from 0 slots) refl
 
-pub granted-known : {blocks : ℕ} {slots : List Slot} {b : Begun} {k : ℕ} {t : Transport} → place_of blocks slots b ≡ Granted k t
+pub granted-known : {blocks : ℕ} {slots : List Slot} {b : Option Transport} {k : ℕ} {t : Transport} → place_of blocks slots b ≡ Granted k t
     → Placed blocks slots b k t
 granted-known {blocks} {slots} {b} e = subst (IfGranted blocks slots b) e (place-known blocks slots b)
 
@@ -216,9 +212,9 @@ granted-known {blocks} {slots} {b} e = subst (IfGranted blocks slots b) e (place
 abbrev pub Decided : Channel → ℕ → List Slot → Packet → List ℕ → Act → Type 0
 Decided c blocks slots h d (Opens k t) = Placed blocks slots (begun_of h.flags d) k t
 Decided c blocks slots h d (Over k p) =
-    (file_from 0 c h.application slots ≡ At k) × (place_of blocks (set slots k no_file) (begun_of h.flags d) ≡ p)
-Decided c blocks slots h d (GoesOn k) = file_from 0 c h.application slots ≡ At k
-Decided c blocks slots h d (Ends k) = file_from 0 c h.application slots ≡ At k
+    (file_from 0 c h.application slots ≡ Some k) × (place_of blocks (set slots k no_file) (begun_of h.flags d) ≡ p)
+Decided c blocks slots h d (GoesOn k) = file_from 0 c h.application slots ≡ Some k
+Decided c blocks slots h d (Ends k) = file_from 0 c h.application slots ≡ Some k
 
 abbrev IfDoes : Channel → ℕ → List Slot → Packet → List ℕ → Ruling → Type 0
 IfDoes c blocks slots h d Skips = Unit {0}
@@ -231,16 +227,16 @@ module _ (c : Channel) (blocks : ℕ) (slots : List Slot) (h : Packet) (d : List
   new-known (Denied n) g = tt
   new-known (Granted k t) g = g
 
-  start-known : (f : Found) → file_from 0 c h.application slots ≡ f
+  start-known : (f : Option ℕ) → file_from 0 c h.application slots ≡ f
       → IfDoes c blocks slots h d (start_ruling blocks slots (begun_of h.flags d) f)
   unfolding start_ruling
-  start-known Nothing e = new-known (place_of blocks slots (begun_of h.flags d)) (place-known blocks slots (begun_of h.flags d))
-  start-known (At k) e = (e, refl)
+  start-known None e = new-known (place_of blocks slots (begun_of h.flags d)) (place-known blocks slots (begun_of h.flags d))
+  start-known (Some k) e = (e, refl)
 
-  next_known : (f : Found) → file_from 0 c h.application slots ≡ f → IfDoes c blocks slots h d (next_ruling slots h d f)
+  next_known : (f : Option ℕ) → file_from 0 c h.application slots ≡ f → IfDoes c blocks slots h d (next_ruling slots h d f)
   unfolding next_ruling
-  next_known Nothing e = tt
-  next_known (At k) e =
+  next_known None e = tt
+  next_known (Some k) e =
       if-cases (IfDoes c blocks slots h d) {x = Does (GoesOn k)} {y = Does (Ends k)} (goes_on (get_or slots k no_file) h d) (λ _. e) (λ _. e)
 
   file-known : IfDoes c blocks slots h d (file_ruling c blocks slots h d)

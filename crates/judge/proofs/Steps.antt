@@ -1,5 +1,5 @@
 -- What a packet does to one slot, its blocks, their octets and the events that name it: nothing, or one of four things. Assumes nothing.
-use Rattle.std.specs.Prelude.{if◌then◌else◌}
+use Rattle.std.specs.Prelude.{if◌then◌else◌, Option, Some, None}
 use mathlib.Core.Path.{◌≡◌, refl, sym, ap, ◌∙◌}
 use mathlib.Core.Bool.{Bool, true, false, ◌&&◌, ◌||◌, and-false}
 use mathlib.Core.Logic.{◌⊎◌, inl, inr}
@@ -18,7 +18,6 @@ use Rattle.octets.proofs.Put.{put-parts, part-put, part-put-out}
 use Rattle.frame.specs.declared.Channel.{Channel}
 use Rattle.packet.specs.declared.Packet.{Packet}
 use Rattle.packet.specs.Header.{packet_of}
-use Rattle.transport.specs.declared.Begun.TheVariants.{Right}
 use Rattle.transport.specs.declared.Transport.{Transport}
 use Rattle.transport.specs.Length.{need}
 use Rattle.transport.specs.Shape.{begun_of}
@@ -27,8 +26,6 @@ use Rattle.state.specs.Slots.{slot_at, no_file, held}
 use Rattle.state.specs.Blocks.{blocks_of, free_blocks, room, Stands}
 use Rattle.state.specs.Sound.{Sized, Sound}
 use Rattle.state.proofs.Places.{stands-low, stands-once}
-use Rattle.room.specs.declared.Found.{Found}
-use Rattle.room.specs.declared.Found.TheVariants.{At, Nothing}
 use Rattle.room.specs.Find.{free_slot, file_of}
 use Rattle.room.specs.Move.{with_file, opened, let_go}
 use Rattle.room.specs.File.{block_octets}
@@ -139,8 +136,8 @@ pub record Unchanged (s : Station) (store : List ℕ) (k : ℕ) (t : Station) (n
 -- a slot with a file that begins in state s: "the lowest free slot and the N lowest free blocks, in rising order"
 pub record Opened (c : Channel) (s : Station) (store : List ℕ) (h : Packet) (d : List ℕ) (k : ℕ) (t : Station) (now : List ℕ) : Type 0 where
   pub file : Transport
-  pub right : begun_of h.flags d ≡ Right file
-  pub free : free_slot s ≡ At k
+  pub right : begun_of h.flags d ≡ Some file
+  pub free : free_slot s ≡ Some k
   pub fits : need file.bits ≤ room s
   pub slot : slot_at t k ≡ first_slot c h file
   pub blocks : blocks_of t k ≡ take (need file.bits) (free_blocks s)
@@ -190,21 +187,21 @@ module _ {c : Channel} {s : Station} {store : List ℕ} {h : Packet} {d : List �
       ]
 
 -- the state in which an older file of the pair is ended
-abbrev pub rid : Station → Found → Station
-rid s Nothing = s
-rid s (At k) = let_go s k
+abbrev pub rid : Station → Option ℕ → Station
+rid s None = s
+rid s (Some k) = let_go s k
 
 -- a file is ended: "an incomplete file of the pair is abandoned, event 6, whatever follows"; "If not, event 6."
 pub record Ending (c : Channel) (s : Station) (p : List ℕ) (k : ℕ) : Type 0 where
   pub undamaged : Undamaged p
-  pub file : file_of s c (packet_of p).application ≡ At k
+  pub file : file_of s c (packet_of p).application ≡ Some k
   pub why : Starting (packet_of p) ⊎ (goes_on (slot_at s k) (packet_of p) (data_of p) ≡ false)
 
 -- a file goes on: "it is written into its block, event 11, or 12 for the last"
 pub record GoneOn (c : Channel) (s : Station) (store p : List ℕ) (k : ℕ) (t : Station) (now : List ℕ) : Type 0 where
   pub undamaged : Undamaged p
   pub later : Starting (packet_of p) → ⊥
-  pub file : file_of s c (packet_of p).application ≡ At k
+  pub file : file_of s c (packet_of p).application ≡ Some k
   pub goes : goes_on (slot_at s k) (packet_of p) (data_of p) ≡ true
   pub slot : slot_at t k ≡ next_slot (slot_at s k) (packet_of p)
   pub blocks : blocks_of t k ≡ blocks_of s k
@@ -233,13 +230,13 @@ named_other : (n a i k : ℕ) (es : List Event) → (k ≡ i → ⊥) → events
 named_other n a i k es f = event-past k (at n a i) es (rw (ne_eqb i k (λ e. f (sym e))) (and-false (eqb n 6 || leb 10 n && leb n 12)))
 
 module _ {c : Channel} {s : Station} {store p : List ℕ} (z : Sized s) (S : Sound s) (sized : length store ≡ 8190 * s.blocks) where
-  new-slot : {j : Judged} (k : ℕ) → Undamaged p → Starting (packet_of p) → file_of s c (packet_of p).application ≡ Nothing
+  new-slot : {j : Judged} (k : ℕ) → Undamaged p → Starting (packet_of p) → file_of s c (packet_of p).application ≡ None
       → Begun c s store (packet_of p) (data_of p) k j → Step c s store p k j
   new-slot k u e f (none t q) = same t q
   new-slot k u e f (one o q) = begun u e (free-at s k o.free).free (rw f o) q
 
   -- a file is ended, and what begins instead is seen from its slot, and from another
-  over-here : {j : Judged} (i : ℕ) → Undamaged p → Starting (packet_of p) → file_of s c (packet_of p).application ≡ At i
+  over-here : {j : Judged} (i : ℕ) → Undamaged p → Starting (packet_of p) → file_of s c (packet_of p).application ≡ Some i
       → Begun c (let_go s i) store (packet_of p) (data_of p) i j
       → Step c s store p i (after (at 6 (packet_of p).application.0 i ∷ []) j)
   over-here {j} i u e f (none t q) =
@@ -252,7 +249,7 @@ module _ {c : Channel} {s : Station} {store p : List ℕ} (z : Sized s) (S : Sou
       begun-over (record { undamaged = u; file = f; why = inl e }) e o
       (named_here 6 a i j.events refl ∙ ap (λ (es : List Event). at 6 a i ∷ es) q)
 
-  over-other : {j : Judged} (i k : ℕ) → (k ≡ i → ⊥) → Undamaged p → Starting (packet_of p) → file_of s c (packet_of p).application ≡ At i
+  over-other : {j : Judged} (i k : ℕ) → (k ≡ i → ⊥) → Undamaged p → Starting (packet_of p) → file_of s c (packet_of p).application ≡ Some i
       → Begun c (let_go s i) store (packet_of p) (data_of p) k j
       → Step c s store p k (after (at 6 (packet_of p).application.0 i ∷ []) j)
   over-other {j} i k g u e f (none t q) =
@@ -264,7 +261,7 @@ module _ {c : Channel} {s : Station} {store p : List ℕ} (z : Sized s) (S : Sou
       begun u e (rw (refiled-slots (let_go-refiles s i) k g) at (free-at (let_go s i) k o.free).free) (rw f o)
       (named_other 6 (packet_of p).application.0 i k j.events g ∙ q)
 
-  broken-off : (i k : ℕ) → Undamaged p → file_of s c (packet_of p).application ≡ At i → goes_on (slot_at s i) (packet_of p) (data_of p) ≡ false
+  broken-off : (i k : ℕ) → Undamaged p → file_of s c (packet_of p).application ≡ Some i → goes_on (slot_at s i) (packet_of p) (data_of p) ≡ false
       → Step c s store p k (gives (let_go s i) store (at 6 (packet_of p).application.0 i ∷ []))
   unfolding events_of
   broken-off i k u f g =
@@ -280,7 +277,7 @@ module _ {c : Channel} {s : Station} {store p : List ℕ} (z : Sized s) (S : Sou
             same (record { slot = refiled-slots r k n; blocks = r.others k n; octets = λ b m. refl }) (named_other 6 a i k [] n)
       ]
 
-  one_more : (i k : ℕ) → Undamaged p → (Starting (packet_of p) → ⊥) → file_of s c (packet_of p).application ≡ At i
+  one_more : (i k : ℕ) → Undamaged p → (Starting (packet_of p) → ⊥) → file_of s c (packet_of p).application ≡ Some i
       → goes_on (slot_at s i) (packet_of p) (data_of p) ≡ true
       → Step c s store p k
       (gives (with_file s s.owner i (next_slot (slot_at s i) (packet_of p))) (written s i (slot_at s i).accepted (data_of p) store)

@@ -1,5 +1,5 @@
 -- What one whole packet does to slots, blocks and store, and the events that it gives ("Packets"). Assumes nothing.
-use Rattle.std.specs.Prelude.{Bool, ◌||◌, List, [], ◌∷◌, ◌++◌, ℕ, ◌+◌, ◌-◌, ◌*◌, ltb, eqb, length, get_or, if◌then◌else◌}
+use Rattle.std.specs.Prelude.{Bool, ◌||◌, List, [], ◌∷◌, ◌++◌, ℕ, ◌+◌, ◌-◌, ◌*◌, ltb, eqb, length, get_or, if◌then◌else◌, Option, Some, None}
 use Rattle.octets.specs.Number.{part, number_at}
 use Rattle.octets.specs.Buffer.{put}
 use Rattle.crc.specs.Crc.{crc_of}
@@ -9,8 +9,6 @@ use Rattle.packet.specs.declared.Kind.{Kind}
 use Rattle.packet.specs.declared.Kind.TheVariants.{File, Other, Fill}
 use Rattle.packet.specs.Kinds.{kind_of}
 use Rattle.packet.specs.Header.{packet_of}
-use Rattle.transport.specs.declared.Begun.{Begun}
-use Rattle.transport.specs.declared.Begun.TheVariants.{Wrong, Right}
 use Rattle.transport.specs.declared.Transport.{Transport}
 use Rattle.transport.specs.Length.{need}
 use Rattle.transport.specs.Shape.{fits, begun_of}
@@ -18,8 +16,6 @@ use Rattle.state.specs.declared.Slot.{Slot}
 use Rattle.state.specs.declared.Station.{Station}
 use Rattle.state.specs.Slots.{slot_at}
 use Rattle.state.specs.Blocks.{blocks_of, room}
-use Rattle.room.specs.declared.Found.{Found}
-use Rattle.room.specs.declared.Found.TheVariants.{At, Nothing}
 use Rattle.room.specs.Find.{free_slot, file_of}
 use Rattle.room.specs.Move.{with_file, opened, let_go}
 use Rattle.events.specs.Event.{Event, of, at}
@@ -64,24 +60,24 @@ opens c s store h d k t =
     gives s' (written s' k 0 d store) (at 10 a k ∷ (if eqb h.flags 3 then at 12 a k ∷ [] else []))
 
 -- "Then event 8 if all 32 slots are held; then event 9 if N exceeds the free blocks"
-unfoldable pub placed : Channel → Station → List ℕ → Packet → List ℕ → Transport → Found → Judged
-placed c s store h d t Nothing = gives s store (of 8 h.application.0 ∷ [])
-placed c s store h d t (At k) =
+unfoldable pub placed : Channel → Station → List ℕ → Packet → List ℕ → Transport → Option ℕ → Judged
+placed c s store h d t None = gives s store (of 8 h.application.0 ∷ [])
+placed c s store h d t (Some k) =
     if ltb (room s) (need t.bits) then gives s store (of 9 h.application.0 ∷ []) else opens c s store h d k t
 
 -- "Event 7 if the data is under 10 octets, .. or the shape is wrong."
-unfoldable pub begins : Channel → Station → List ℕ → Packet → List ℕ → Begun → Judged
-begins c s store h d Wrong = gives s store (of 7 h.application.0 ∷ [])
-begins c s store h d (Right t) = placed c s store h d t (free_slot s)
+unfoldable pub begins : Channel → Station → List ℕ → Packet → List ℕ → Option Transport → Judged
+begins c s store h d None = gives s store (of 7 h.application.0 ∷ [])
+begins c s store h d (Some t) = placed c s store h d t (free_slot s)
 
 -- the events so far, then those of what comes of it
 abbrev pub after : List Event → Judged → Judged
 after es j = gives j.station j.store (es ++ j.events)
 
 -- "Flags 1 (first) or 3 (whole): an incomplete file of the pair is abandoned, event 6, whatever follows."
-unfoldable pub starts : Channel → Station → List ℕ → Packet → List ℕ → Found → Judged
-starts c s store h d Nothing = begins c s store h d (begun_of h.flags d)
-starts c s store h d (At k) = after (at 6 h.application.0 k ∷ []) (begins c (let_go s k) store h d (begun_of h.flags d))
+unfoldable pub starts : Channel → Station → List ℕ → Packet → List ℕ → Option ℕ → Judged
+starts c s store h d None = begins c s store h d (begun_of h.flags d)
+starts c s store h d (Some k) = after (at 6 h.application.0 k ∷ []) (begins c (let_go s k) store h d (begun_of h.flags d))
 
 -- "With one, the count must follow the last ..": whether a packet goes on with the file in a slot. Only slot and packet are looked at
 unfoldable pub goes_on : Slot → Packet → List ℕ → Bool
@@ -92,9 +88,9 @@ abbrev pub next_kind : Packet → ℕ
 next_kind h = if eqb h.flags 2 then 12 else 11
 
 -- "If so it is written into its block, event 11, or 12 for the last. If not, event 6."
-unfoldable pub continues : Station → List ℕ → Packet → List ℕ → Found → Judged
-continues s store h d Nothing = gives s store (of 5 h.application.0 ∷ [])
-continues s store h d (At k) =
+unfoldable pub continues : Station → List ℕ → Packet → List ℕ → Option ℕ → Judged
+continues s store h d None = gives s store (of 5 h.application.0 ∷ [])
+continues s store h d (Some k) =
     let x : Slot = slot_at s k in
     let a : ℕ = h.application.0 in
     if goes_on x h d

@@ -1,9 +1,8 @@
 -- What the rules ask of a packet before they look at slots and room ("Packets"). Assumes nothing.
-use Rattle.std.specs.Prelude.{◌≡◌, true, ◌⊎◌, List, ℕ, ◌+◌, ◌≤◌, length}
+use Rattle.std.specs.Prelude.{◌≡◌, true, ◌⊎◌, List, ℕ, ◌+◌, ◌≤◌, length, Some}
 use Rattle.packet.specs.declared.Packet.{Packet}
 use Rattle.packet.specs.Kinds.{next_count}
 use Rattle.packet.specs.Header.{packet_of}
-use Rattle.transport.specs.declared.Begun.TheVariants.{Right}
 use Rattle.transport.specs.declared.Transport.{Transport}
 use Rattle.transport.specs.Length.{rest}
 use Rattle.transport.specs.Shape.{begun_of}
@@ -26,7 +25,7 @@ pub record Starts (p : List ℕ) (t : Transport) : Type 0 where
   pub undamaged : Undamaged p
   pub starting : Starting (packet_of p)
   -- not "Event 7 if the data is under 10 octets, .. or the shape is wrong"
-  pub right : begun_of (packet_of p).flags (data_of p) ≡ Right t
+  pub right : begun_of (packet_of p).flags (data_of p) ≡ Some t
 
 -- "With one, the count must follow the last modulo 16,384; a middle packet has 8,190 octets and isn't the Nth; a last one is the Nth with
 -- exactly the rest.": a packet with header h and data d, and the file in slot x

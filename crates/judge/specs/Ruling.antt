@@ -1,6 +1,6 @@
 -- What is decided of a packet before anything is done, by its octets, its channel, the slots and the number of blocks; and what is done then.
 -- Means: Judge.antt has what a packet does, as the paper tells it, and that this is the same is proved (proofs/Rulings.antt). Assumes nothing.
-use Rattle.std.specs.Prelude.{List, [], ◌∷◌, ℕ, ◌-◌, ltb, get_or, set, if◌then◌else◌}
+use Rattle.std.specs.Prelude.{List, [], ◌∷◌, ℕ, ◌-◌, ltb, get_or, set, if◌then◌else◌, Option, Some, None}
 use Rattle.events.specs.Event.{of, at}
 use Rattle.frame.specs.declared.Channel.{Channel}
 use Rattle.packet.specs.declared.Packet.{Packet}
@@ -8,8 +8,6 @@ use Rattle.packet.specs.declared.Kind.{Kind}
 use Rattle.packet.specs.declared.Kind.TheVariants.{File, Other, Fill}
 use Rattle.packet.specs.Kinds.{kind_of}
 use Rattle.packet.specs.Header.{packet_of}
-use Rattle.transport.specs.declared.Begun.{Begun}
-use Rattle.transport.specs.declared.Begun.TheVariants.{Wrong, Right}
 use Rattle.transport.specs.declared.Transport.{Transport}
 use Rattle.transport.specs.Length.{need}
 use Rattle.transport.specs.Shape.{begun_of}
@@ -17,8 +15,6 @@ use Rattle.state.specs.declared.Slot.{Slot}
 use Rattle.state.specs.declared.Station.{Station}
 use Rattle.state.specs.Slots.{no_file, slot_at}
 use Rattle.state.specs.Blocks.{needs}
-use Rattle.room.specs.declared.Found.{Found}
-use Rattle.room.specs.declared.Found.TheVariants.{At, Nothing}
 use Rattle.room.specs.Find.{free_from, file_from}
 use Rattle.room.specs.Move.{with_file, let_go}
 use Rattle.judge.specs.declared.Place.{Place}
@@ -30,27 +26,27 @@ use Rattle.judge.specs.declared.Ruling.TheVariants.{Skips, Says, Does}
 use Rattle.judge.specs.Judge.{Judged, gives, after, data_of, is_intact, written, next_slot, next_kind, opens, goes_on, starts_file}
 
 -- a file that begins: event 7, 8 or 9, or the lowest free slot
-unfoldable pub place_at : ℕ → List Slot → Transport → Found → Place
-place_at blocks slots t Nothing = Denied 8
-place_at blocks slots t (At k) = if ltb (blocks - needs slots) (need t.bits) then Denied 9 else Granted k t
+unfoldable pub place_at : ℕ → List Slot → Transport → Option ℕ → Place
+place_at blocks slots t None = Denied 8
+place_at blocks slots t (Some k) = if ltb (blocks - needs slots) (need t.bits) then Denied 9 else Granted k t
 
-unfoldable pub place_of : ℕ → List Slot → Begun → Place
-place_of blocks slots Wrong = Denied 7
-place_of blocks slots (Right t) = place_at blocks slots t (free_from 0 slots)
+unfoldable pub place_of : ℕ → List Slot → Option Transport → Place
+place_of blocks slots None = Denied 7
+place_of blocks slots (Some t) = place_at blocks slots t (free_from 0 slots)
 
 unfoldable pub new_ruling : Place → Ruling
 new_ruling (Denied n) = Says n
 new_ruling (Granted k t) = Does (Opens k t)
 
 -- a packet that starts a file, by the file of its pair: where there is one, the new one is placed as if that were gone
-unfoldable pub start_ruling : ℕ → List Slot → Begun → Found → Ruling
-start_ruling blocks slots b Nothing = new_ruling (place_of blocks slots b)
-start_ruling blocks slots b (At k) = Does (Over k (place_of blocks (set slots k no_file) b))
+unfoldable pub start_ruling : ℕ → List Slot → Option Transport → Option ℕ → Ruling
+start_ruling blocks slots b None = new_ruling (place_of blocks slots b)
+start_ruling blocks slots b (Some k) = Does (Over k (place_of blocks (set slots k no_file) b))
 
 -- a later packet
-unfoldable pub next_ruling : List Slot → Packet → List ℕ → Found → Ruling
-next_ruling slots h d Nothing = Says 5
-next_ruling slots h d (At k) = if goes_on (get_or slots k no_file) h d then Does (GoesOn k) else Does (Ends k)
+unfoldable pub next_ruling : List Slot → Packet → List ℕ → Option ℕ → Ruling
+next_ruling slots h d None = Says 5
+next_ruling slots h d (Some k) = if goes_on (get_or slots k no_file) h d then Does (GoesOn k) else Does (Ends k)
 
 unfoldable pub file_ruling : Channel → ℕ → List Slot → Packet → List ℕ → Ruling
 file_ruling c blocks slots h d =

@@ -6,7 +6,7 @@
 // (proofs/Keeps.antt), and a packet gives three events at most.
 #![tactic(auto)]
 
-ghost use Rattle.std.specs.Prelude.{◌≡◌, ◌||◌, ◌≤◌, ◌<◌, eqb, length, set};
+ghost use Rattle.std.specs.Prelude.{◌≡◌, ◌||◌, ◌≤◌, ◌<◌, eqb, length, set, Some};
 ghost use Rattle.packet.specs.Header.{packet_of};
 ghost use Rattle.transport.specs.Shape.{begun_of};
 ghost use Rattle.state.specs.Slots.{no_file};
@@ -17,9 +17,8 @@ ghost use Rattle.judge.specs.Contract.{Whole};
 
 use frame::Channel;
 use packet::{Application, Packet};
-use room::Found;
 use state::{Slot, Station};
-use transport::{Begun, Transport};
+use transport::Transport;
 
 // Where a file that begins is placed: nowhere, with an event of this kind, or in this slot.
 #[derive(Clone, Copy)]
@@ -59,10 +58,7 @@ fn intact(packet: &[u8]) -> bool
 fn starts_file(flags: u8) -> bool
     ensures { result ≡ (eqb flags 1 || eqb flags 3) }
 {
-    if flags == Packet::FIRST {
-        return true;
-    }
-    flags == Packet::WHOLE
+    flags == Packet::FIRST || flags == Packet::WHOLE
 }
 
 // Events 7, 8 and 9, in this order, or the lowest free slot.
@@ -70,12 +66,10 @@ fn place_of(blocks: u16, slots: [Slot; Station::SLOTS], flags: u8, data: &[u8]) 
     requires { needs_of slots ≤ blocks }
     ensures { result ≡ place_of blocks slots (begun_of flags «data».now) }
 {
-    let begun = transport::begin(flags, data);
-    let Begun::Right(t) = begun else {
+    let Some(t) = transport::begin(flags, data) else {
         return Place::Denied(7);
     };
-    let free = room::free_slot(slots);
-    let Found::At(k) = free else {
+    let Some(k) = room::free_slot(slots) else {
         return Place::Denied(8);
     };
     let left = blocks as u64 - room::needs(slots);
@@ -90,8 +84,7 @@ fn rule_new(blocks: u16, slots: [Slot; Station::SLOTS], flags: u8, data: &[u8]) 
     requires { needs_of slots ≤ blocks }
     ensures { result ≡ new_ruling (place_of blocks slots (begun_of flags «data».now)) }
 {
-    let place = place_of(blocks, slots, flags, data);
-    match place {
+    match place_of(blocks, slots, flags, data) {
         Place::Denied(kind) => Ruling::Says(kind),
         Place::Granted(k, t) => Ruling::Does(Act::Opens(k, t)),
     }
@@ -103,24 +96,21 @@ fn rule_over(blocks: u16, slots: [Slot; Station::SLOTS], k: usize, flags: u8, da
     ensures { result ≡ Ruling.Does (Act.Over k (place_of blocks (set slots k no_file) (begun_of flags «data».now))) }
 {
     let mut left = slots;
-    let empty = Slot::none();
-    left[k] = empty;
-    let place = place_of(blocks, left, flags, data);
-    Ruling::Does(Act::Over(k, place))
+    left[k] = Slot::none();
+    Ruling::Does(Act::Over(k, place_of(blocks, left, flags, data)))
 }
 
 // Flags 0 or 2, with a file of the pair in slot k.
 fn rule_next(slots: [Slot; Station::SLOTS], k: usize, h: Packet, data: &[u8]) -> Ruling
     requires { k < 32 }
-    ensures { result ≡ next_ruling slots h «data».now (Found.At k) }
+    ensures { result ≡ next_ruling slots h «data».now (Some k) }
 {
     let x = slots[k];
-    let last = x.count;
-    let count = h.count;
-    if transport::fits(h.flags, data.len(), x.bits, x.accepted, last, count) {
-        return Ruling::Does(Act::GoesOn(k));
+    if transport::fits(h.flags, data.len(), x.bits, x.accepted, x.count, h.count) {
+        Ruling::Does(Act::GoesOn(k))
+    } else {
+        Ruling::Does(Act::Ends(k))
     }
-    Ruling::Does(Act::Ends(k))
 }
 
 // An intact packet of a file.
@@ -134,15 +124,14 @@ fn rule_file(
     requires { needs_of slots ≤ blocks }
     ensures { result ≡ file_ruling channel blocks slots h «data».now }
 {
-    let application = h.application;
-    let file = room::file_of(slots, channel, application);
+    let file = room::file_of(slots, channel, h.application);
     if starts_file(h.flags) {
-        let Found::At(k) = file else {
+        let Some(k) = file else {
             return rule_new(blocks, slots, h.flags, data);
         };
         return rule_over(blocks, slots, k, h.flags, data);
     }
-    let Found::At(k) = file else {
+    let Some(k) = file else {
         return Ruling::Says(5);
     };
     rule_next(slots, k, h, data)
@@ -159,11 +148,10 @@ pub fn rule(
     requires { Whole packet.now × (h ≡ packet_of packet.now) × (needs_of slots ≤ blocks) }
     ensures { result ≡ ruling_of channel blocks slots packet.now }
 {
-    let application = h.application;
-    if application.0 == Application::FILL {
+    if h.application.0 == Application::FILL {
         return Ruling::Skips;
     }
-    if application.0 > Application::LAST_FILE {
+    if h.application.0 > Application::LAST_FILE {
         return Ruling::Says(13);
     }
     if !intact(packet) {

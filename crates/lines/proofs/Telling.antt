@@ -27,20 +27,19 @@ lines_next list n i h =
 
 -- the lines of the first i of n events were written
 pub record Lining (list before : List ℕ) (n at : ℕ) (out : List ℕ) (end i : ℕ) : Type 0 where
-  pub within : i ≤ n
   pub few : end ≤ at + 65 * i
   pub room : length out ≡ length before
   pub gives : Writing before at (event_lines n list) out end (event_lines (n - i) (drop (3 * i) list))
 
 pub lining-none : (list before : List ℕ) (n at : ℕ) → Lining list before n at before at 0
-lining-none list before n at = record { within = omega arith; few = omega arith; room = refl; gives = rw sub-zero (begun before (event_lines n list) at) }
+lining-none list before n at = record { few = omega arith; room = refl; gives = rw sub-zero (begun before (event_lines n list) at) }
 
 module _ {list before out : List ℕ} {n at end i : ℕ} (g : Lining list before n at out end i) where
   pub lining-more : {after : List ℕ} {next : ℕ} → i < n → next ≤ end + 65 → length after ≡ length out
       → Written out end (event_line (get_or list (3 * i) 0) (get_or list (3 * i + 1) 0) (get_or list (3 * i + 2) 0)) after next
       → Lining list before n at after next (i + 1)
   lining-more h few room w =
-      record { within = omega arith; few = omega (arith, g.few); room = room ∙ g.room; gives = went_on (rw (lines_next list n i h) at g.gives) w }
+      record { few = omega (arith, g.few); room = room ∙ g.room; gives = went_on (rw (lines_next list n i h) at g.gives) w }
 
   pub lining-all : n ≤ i → Written before at (event_lines n list) out end
   unfolding event_lines

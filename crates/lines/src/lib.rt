@@ -9,21 +9,15 @@ ghost use Rattle.std.specs.Prelude.{◌+◌, ◌*◌, ◌≤◌, ◌≡◌, [], 
 ghost use Rattle.text.specs.Pieces.{Written};
 ghost use Rattle.lines.specs.Lines.{end_line, event_line, event_lines, answer_line, frame_lines, read_line, report, let_go_line, told_line};
 
-fn wide(x: u16) -> u64
-    ensures { result ≡ x }
-{
-    x as u64
-}
-
 // The line of event i.
 fn event(list: &[u16], i: usize, out: &mut [u8], at: usize) -> usize
     requires { (3 * i + 3 ≤ length list.now) × (at + 65 ≤ length out.old) }
     ensures upper_bound { result ≤ at + 65 }
     ensures written { Written out.old at (event_line (get_or list.now (3 * i) 0) (get_or list.now (3 * i + 1) 0) (get_or list.now (3 * i + 2) 0)) out.new result }
 {
-    let kind = wide(list[3 * i]);
-    let application = wide(list[3 * i + 1]);
-    let slot = wide(list[3 * i + 2]);
+    let kind = list[3 * i] as u64;
+    let application = list[3 * i + 1] as u64;
+    let slot = list[3 * i + 2] as u64;
     let end = text::with_three(b"E", kind, application, slot, out, at);
     text::line_end(out, end)
 }
@@ -35,10 +29,8 @@ pub fn events(list: &[u16], n: usize, out: &mut [u8], at: usize) -> usize
     ensures written { Written out.old at (event_lines n list.now) out.new result }
 {
     let mut end = at;
-    let mut i: usize = 0;
-    while i < n {
+    for i in 0..n {
         end = event(list, i, out, end);
-        i += 1;
     }
     end
 }

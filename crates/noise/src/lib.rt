@@ -63,10 +63,8 @@ fn mix_period(from: &[u8], to: &mut [u8], at: usize, table: &[u8; Noise::PERIOD]
     requires { (at + 255 ≤ length from.now) × (at + 255 ≤ length to.old) × (length table.now ≡ 255) }
     ensures { to.new ≡ put to.old at (xored (part at 255 from.now) table.now) }
 {
-    let mut j: usize = 0;
-    while j < Noise::PERIOD {
+    for j in 0..Noise::PERIOD {
         to[at + j] = from[at + j] ^ table[j];
-        j += 1;
     }
 }
 
@@ -76,9 +74,7 @@ pub fn mix(from: &[u8], to: &mut [u8])
     ensures { to.new ≡ mixed from.now }
 {
     let table = Noise::table();
-    let mut at: usize = 0;
-    while at < Noise::FRAME {
-        mix_period(from, to, at, &table);
-        at += Noise::PERIOD;
+    for k in 0..Noise::FRAME / Noise::PERIOD {
+        mix_period(from, to, k * Noise::PERIOD, &table);
     }
 }

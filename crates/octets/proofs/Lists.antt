@@ -6,11 +6,11 @@ use mathlib.Core.Logic.{◌⊎◌, inl, inr, ⊎_elim}
 use mathlib.Core.List.Memᴰ
 use mathlib.Core.List.{List, [], ◌∷◌, ◌++◌, map, append_assoc, flatten, Memᴰ}
 use Prim.Native.Nat.{ℕ, zero, suc, ◌+◌, ◌-◌, ◌<◌, ◌≤◌}
-use native.Mathlib.Nat.{zero-add, suc-add, sub-zero}
 use native.Mathlib.Omega.{arith}
 use lib.ListN.{length, take, drop, get_or, replicate, length-map, length-append, length-drop, take-append-drop}
-use lib.Seq.{length-take-le, take_all, get_or-take, get_or-drop, take-take, take-add, take-nil, drop-drop, take-append-le, drop-append-le, drop-append-add}
+use lib.Seq.{length-take-le, take_all, get_or-take, get_or-drop, take-take, take-add, drop-drop, take-append-le, drop-append-le, drop-append-add}
 use Rattle.octets.specs.Number.{part}
+pub use Rattle.std.proofs.lemmas.List.{take-map, drop-take, drop-replicate}
 
 -- one of some, and of others
 pub in_either : {A : Type 0} {x : A} (xs ys : List A) → Memᴰ x (xs ++ ys) → Memᴰ x xs ⊎ Memᴰ x ys
@@ -40,11 +40,6 @@ pub unmap : (A B : Type 0) (f : A → B) (xs : List A) (n : ℕ) → length (map
 unmap A B f xs n e = sym (length-map xs f) ∙ e
 
 module _ {A : Type 0} where
-  pub drop-take : (m n : ℕ) (xs : List A) → drop m (take (m + n) xs) ≡ take n (drop m xs)
-  drop-take zero n xs = rw zero-add
-  drop-take (suc m) n [] = rw (suc-add, take-nil n)
-  drop-take (suc m) n (x ∷ xs) = rw suc-add (drop-take m n xs)
-
   -- what `&xs[at..]` is
   pub whole-rest : (xs : List A) (at : ℕ) → take (length xs - at) (drop at xs) ≡ drop at xs
   whole-rest xs at = take_all (length xs - at) (drop at xs) (omega (arith, length-drop at xs))
@@ -59,9 +54,6 @@ module _ {A : Type 0} where
   pub three-parts : (xs : List A) (at n : ℕ) → take at xs ++ part at n xs ++ drop (at + n) xs ≡ xs
   three-parts xs at n =
       ap (λ (ys : List A). ys ++ drop (at + n) xs) (sym (take-add at n xs)) ∙ take-append-drop (at + n) xs
-
-  pub part-whole : (xs : List A) → part 0 (length xs) xs ≡ xs
-  part-whole xs = take_all (length xs) xs (omega arith)
 
   -- a part of a part
   pub part-part : (xs : List A) (a n b m : ℕ) → b + m ≤ n → part b m (part a n xs) ≡ part (a + b) m xs
@@ -91,20 +83,6 @@ module _ {A : Type 0} (xs ys : List A) where
       let e = f (omega arith) in
       let z : at - length xs ≡ 0 = omega arith in
       part_right at (suc n) (omega arith) ∙ ap (λ (i : ℕ). part i (suc n) ys) z
-
-pub take-map : {A B : Type 0} (f : A → B) (n : ℕ) (xs : List A) → take n (map f xs) ≡ map f (take n xs)
-take-map f zero xs = refl
-take-map f (suc n) [] = refl
-take-map f (suc n) (x ∷ xs) = ap (λ (ys : List _). f x ∷ ys) (take-map f n xs)
-
-pub drop-replicate : {A : Type 0} (m n : ℕ) (v : A) → drop m (replicate n v) ≡ replicate (n - m) v
-drop-replicate zero n v = rw sub-zero
-drop-replicate (suc m) zero v =
-    let k : 0 - suc m ≡ 0 = omega arith in
-    rw k
-drop-replicate (suc m) (suc n) v =
-    let k : suc n - suc m ≡ n - m = omega arith in
-    rw k (drop-replicate m n v)
 
 -- a list with nothing in it but one value
 module _ {A : Type 0} (x : A) where
@@ -142,7 +120,3 @@ if-cases P false f g = g refl
 pub if-map : {A B : Type 0} (f : A → B) (b : Bool) (x y : A) → f (if b then x else y) ≡ (if b then f x else f y)
 if-map f true x y = refl
 if-map f false x y = refl
-
-pub if-same : {A : Type 0} (b : Bool) (x : A) → (if b then x else x) ≡ x
-if-same true x = refl
-if-same false x = refl

@@ -1,15 +1,15 @@
 -- The laws of a run of stores. No bound is asked where none is needed. Assumes nothing.
 use mathlib.Core.Path.{◌≡◌, refl, sym, ap, ap₂, ◌∙◌}
 use mathlib.Core.List.{List, [], ◌∷◌, ◌++◌, append-nil}
-use mathlib.Core.Logic.{◌⊎◌, inl, inr, ⊎_elim}
-use Prim.Native.Nat.{ℕ, zero, suc, ◌+◌, ◌-◌, ◌<◌, ◌≤◌}
-use native.Mathlib.Nat.{add-zero, add-suc, suc-add, le_of_suc-le-suc, not-suc-le-zero}
+use mathlib.Core.Logic.{◌⊎◌, ⊎_elim}
+use Prim.Native.Nat.{ℕ, suc, ◌+◌, ◌-◌, ◌<◌, ◌≤◌}
+use native.Mathlib.Nat.{add-zero, add-suc, suc-add}
 use native.Mathlib.Decide.{ℕ_discrete}
 use native.Mathlib.Numerals.{add-one, towards_suc}
 use native.Mathlib.Omega.{arith}
 use borrow.Rule.Slice.PartMut.{put_mid, mid_of, put_same}
-use lib.ListN.{length, take, drop, set, get_or, replicate, length-set, drop_of_length-le}
-use lib.Seq.{sets, sets-eq, length-sets, drop-cons, take-set-le, take-set-lt, drop-set-lt, drop-set-add, get_or-set_same, get_or-set_other, set-set, set_comm}
+use lib.ListN.{length, take, drop, set, get_or, replicate, length-replicate, drop_of_length-le}
+use lib.Seq.{sets, sets-eq, length-sets, drop-cons, take-set-le, take-set-lt, drop-set-lt, drop-set-add, set-set, set_comm}
 use Rattle.octets.specs.Number.{part}
 use Rattle.octets.specs.Buffer.{put}
 use Rattle.octets.proofs.Lists.{whole_part, three-parts}
@@ -35,7 +35,7 @@ pub put-parts : (xs : List ℕ) (at : ℕ) (es : List ℕ) → at + length es �
 unfolding put
 put-parts xs at es h = sets-eq es xs at h
 
--- a loop that copies: where it begins, a turn, and where it ends
+-- a loop that stores a list octet by octet: where it begins, a turn, and where it ends
 module _ (src : List ℕ) (at : ℕ) (goal : List ℕ) where
   pub copy-none : (dst : List ℕ) → goal ≡ put dst at src → goal ≡ put dst (at + 0) src
   copy-none dst e = rw add-zero e
@@ -49,50 +49,12 @@ module _ (src : List ℕ) (at : ℕ) (goal : List ℕ) where
   unfolding put
   copy-all dst i h e = sym (e ∙ ap (sets dst (at + i)) (drop_of_length-le src h))
 
--- a loop that stores the same at n places
-module _ (v n at : ℕ) (goal : List ℕ) where
-  pub fill_none : (dst : List ℕ) → goal ≡ put dst at (replicate n v) → goal ≡ put dst (at + 0) (replicate (n - 0) v)
-  fill_none dst e =
-      let k : n - 0 ≡ n = omega arith in
-      rw (add-zero, k) e
-
-  pub fill_more : (dst : List ℕ) (i : ℕ) → i < n → goal ≡ put dst (at + i) (replicate (n - i) v)
-      → goal ≡ put (set dst (at + i) v) (at + (i + 1)) (replicate (n - (i + 1)) v)
-  unfolding put
-  fill_more dst i h e =
-      let k : n - i ≡ suc (n - suc i) = omega arith in
-      rw (add-one, add-suc) (e ∙ ap (λ (m : ℕ). sets dst (at + i) (replicate m v)) k)
-
-  pub fill-all : (dst : List ℕ) (i : ℕ) → n ≤ i → goal ≡ put dst (at + i) (replicate (n - i) v) → dst ≡ goal
-  unfolding put
-  fill-all dst i h e =
-      let k : n - i ≡ 0 = omega arith in
-      sym (e ∙ ap (λ (m : ℕ). sets dst (at + i) (replicate m v)) k)
-
 -- a whole buffer
 pub put_whole : (xs es : List ℕ) → length es ≡ length xs → put xs 0 es ≡ es
 put_whole xs es h =
     let fits : 0 + length es ≤ length xs = omega arith in
     let none : length xs ≤ 0 + length es = omega arith in
     put-parts xs 0 es fits ∙ ap (λ (r : List ℕ). es ++ r) (drop_of_length-le xs none) ∙ append-nil es
-
--- outside the stretch all is as it was
-pub get_or-put-out : (es xs : List ℕ) (at i d : ℕ) → (i < at) ⊎ (at + length es ≤ i) → get_or (put xs at es) i d ≡ get_or xs i d
-unfolding put
-get_or-put-out [] xs at i d h = refl
-get_or-put-out (e ∷ es) xs at i d h =
-    get_or-put-out es (set xs at e) (suc at) i d (⊎_elim (λ l. inl (omega arith)) (λ l. inr (omega arith)) h)
-    ∙ get_or-set_other xs at i e d (⊎_elim (λ l. λ q. omega arith) (λ l. λ q. omega arith) h)
-
-pub get_or-put-in : (es xs : List ℕ) (at i d : ℕ) → i < length es → at + i < length xs → get_or (put xs at es) (at + i) d ≡ get_or es i d
-unfolding put
-get_or-put-in [] xs at i d h k = absurd (not-suc-le-zero h)
-get_or-put-in (e ∷ es) xs at zero d h k =
-    rw add-zero (get_or-put-out es (set xs at e) (suc at) at d (inl (omega arith)) ∙ get_or-set_same xs at e d (omega arith))
-get_or-put-in (e ∷ es) xs at (suc i) d h k =
-    let s : at + suc i ≡ suc at + i = omega arith in
-    let l : suc at + i < length (set xs at e) = omega (arith, length-set xs at e) in
-    ap (λ (j : ℕ). get_or (sets (set xs at e) (suc at) es) j d) s ∙ get_or-put-in es (set xs at e) (suc at) i d (le_of_suc-le-suc h) l
 
 -- a stretch that begins behind n places, or ends before them
 pub take-put-before : (es xs : List ℕ) (at n : ℕ) → n ≤ at → take n (put xs at es) ≡ take n xs
@@ -146,6 +108,16 @@ put-part es a k at xs h =
     ∙ ap₂ (λ (f b : List ℕ). f ++ (part a k (put xs (a + at) es) ++ b)) (sym (take-put-before es xs (a + at) a (omega arith)))
     (sym (ap (drop k) (drop-put es xs a at) ∙ drop-put-after es (drop a xs) at k h))
     ∙ put_same a k (put xs (a + at) es)
+
+-- a part that was lent and stored all over, or filled with one value, is a run of stores in the whole
+pub put_lent : {new : List ℕ} (es xs : List ℕ) (a k : ℕ) → new ≡ es → length es ≡ k → a + k ≤ length xs → put_mid a k xs new ≡ put xs a es
+put_lent es xs a k e n h =
+    ap (put_mid a k xs) (e ∙ sym (put_whole (part a k xs) es (n ∙ sym (whole_part xs a k h)))) ∙ put-part es a k 0 xs (omega arith)
+    ∙ ap (λ (j : ℕ). put xs j es) (add-zero a)
+
+pub fill_lent : {new : List ℕ} (v n : ℕ) (xs : List ℕ) (a k : ℕ) → new ≡ replicate (length (take k (drop a xs))) v → k ≡ n → a + k ≤ length xs
+    → put_mid a k xs new ≡ put xs a (replicate n v)
+fill_lent v n xs a k e m h = put_lent (replicate n v) xs a k (e ∙ ap (λ (j : ℕ). replicate j v) (whole_part xs a k h ∙ m)) (length-replicate n v ∙ sym m) h
 
 -- a store before a run of stores behind it
 set_before : (es xs : List ℕ) (a b v : ℕ) → a < b → set (put xs b es) a v ≡ put (set xs a v) b es

@@ -9,9 +9,9 @@ use Rattle.octets.specs.Reasons.Reason.{◌when◌}
 use Rattle.octets.proofs.Lists.{if-cases, if-map}
 
 -- no reason applies
-abbrev pub None : List Reason → Type 0
-None [] = Unit
-None ((n when b) ∷ rs) = (b ≡ false) × None rs
+abbrev pub NoneApplies : List Reason → Type 0
+NoneApplies [] = Unit
+NoneApplies ((n when b) ∷ rs) = (b ≡ false) × NoneApplies rs
 
 -- the reason of n is the first that applies
 pub data First : List Reason → ℕ → Type 0 where
@@ -19,13 +19,13 @@ pub data First : List Reason → ℕ → Type 0 where
   later : {m n : ℕ} {b : Bool} {rs : List Reason} → b ≡ false → First rs m → First ((n when b) ∷ rs) m
 
 pub decided-cases : {A : Type 0} (P : A → Type 0) (rs : List Reason) {done : A} {refused : ℕ → A}
-    → (None rs → P done) → ((n : ℕ) → First rs n → P (refused n)) → P (decided rs done refused)
+    → (NoneApplies rs → P done) → ((n : ℕ) → First rs n → P (refused n)) → P (decided rs done refused)
 decided-cases P [] d r = d tt
 decided-cases P ((n when b) ∷ rs) d r =
     if-cases P b (λ e. r n (here e)) (λ e. decided-cases P rs (λ f. d (e, f)) (λ m f. r m (later e f)))
 
 module _ {A : Type 0} (d : A) (f : ℕ → A) where
-  pub none-decided : (rs : List Reason) → None rs → decided rs d f ≡ d
+  pub none-decided : (rs : List Reason) → NoneApplies rs → decided rs d f ≡ d
   none-decided [] h = refl
   none-decided ((n when b) ∷ rs) h = rw h.0 (none-decided rs h.1)
 
@@ -45,16 +45,16 @@ decided-map {A} {B} g ((n when b) ∷ rs) d f =
     if-map g b (f n) (decided rs d f) ∙ ap (λ (r : B). if b then g (f n) else r) (decided-map g rs d f)
 
 -- where no refusal is taken for what was to be done, the outcome tells that no reason applied
-pub decided-none : {A : Type 0} (rs : List Reason) {d : A} {f : ℕ → A} → ((n : ℕ) → f n ≡ d → ⊥) → decided rs d f ≡ d → None rs
+pub decided-none : {A : Type 0} (rs : List Reason) {d : A} {f : ℕ → A} → ((n : ℕ) → f n ≡ d → ⊥) → decided rs d f ≡ d → NoneApplies rs
 decided-none rs {d} {f} apart =
-    decided-cases (λ (r : _). r ≡ d → None rs) rs (λ none e. none) (λ n first e. absurd (apart n e))
+    decided-cases (λ (r : _). r ≡ d → NoneApplies rs) rs (λ none e. none) (λ n first e. absurd (apart n e))
 
 -- a refusal is given whatever was to be done
 pub decided-kept : {A : Type 0} (rs : List Reason) (d' : A) (f : ℕ → A) {d a : A} → (d ≡ a → ⊥) → decided rs d f ≡ a → decided rs d' f ≡ a
 decided-kept rs d' f {d} {a} apart =
     decided-cases (λ (r : _). r ≡ a → decided rs d' f ≡ a) rs (λ none e. absurd (apart e)) (λ n first e. first-decided d' f first ∙ e)
 
-pub none-append : (xs ys : List Reason) → None (xs ++ ys) → None xs × None ys
+pub none-append : (xs ys : List Reason) → NoneApplies (xs ++ ys) → NoneApplies xs × NoneApplies ys
 none-append [] ys h = (tt, h)
 none-append ((n when b) ∷ xs) ys h =
     let (front, back) = none-append xs ys h.1 in

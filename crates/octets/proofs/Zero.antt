@@ -39,6 +39,16 @@ module _ (s : List ℕ) (to : ℕ) (goal : Bool) (any i : ℕ) (e : goal ≡ (eq
       let m : to - i ≡ 0 = omega arith in
       sym (e ∙ rw (m, and-true))
 
+-- the same over a whole list
+module _ (xs : List ℕ) (goal : Bool) (any i : ℕ) (e : goal ≡ (eqb any 0 && all_zero (drop i xs))) where
+  pub gathered-more : i < length xs → goal ≡ (eqb (bit_or any (get_or xs i 0)) 0 && all_zero (drop (i + 1) xs))
+  unfolding all_zero
+  gathered-more h = rw (add-one, or-zero, and_assoc) (e ∙ rw (drop-cons xs i 0 h))
+
+  pub gathered-all : length xs ≤ i → eqb any 0 ≡ goal
+  unfolding all_zero
+  gathered-all h = sym (e ∙ rw (drop_of_length-le xs h, and-true))
+
 -- the tests of four heads, brought in front of those of the tails
 four-turn : (z a a' b b' c c' d d' : Bool)
     → (z && (((a && a') && (b && b')) && ((c && c') && (d && d')))) ≡ ((z && ((a && b) && (c && d))) && ((a' && b') && (c' && d')))

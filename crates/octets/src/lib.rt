@@ -14,10 +14,8 @@ pub fn number(s: &[u8], at: usize, w: usize) -> u64
     ensures { (result ≡ number_at s.now at w) × (result < 2 ^ (8 * w)) }
 {
     let mut v: u64 = 0;
-    let mut i: usize = 0;
-    while i < w {
-        v = v * 256 + s[at + i] as u64;
-        i += 1;
+    for x in &s[at..at + w] {
+        v = v * 256 + *x as u64;
     }
     v
 }
@@ -54,27 +52,20 @@ pub fn i32_at(s: &[u8], at: usize) -> i32
     requires { at + 4 ≤ length s.now }
     ensures { result ≡ signed (number_at s.now at 4) }
 {
-    let n = number(s, at, 4);
-    if n < 2147483648 {
-        return n as i32;
-    }
-    ((n as i64) - 4294967296) as i32
+    u32_at(s, at).cast_signed()
 }
 
 pub fn least(a: usize, b: usize) -> usize
     ensures { result ≡ min a b }
 {
-    if a < b { a } else { b }
+    a.min(b)
 }
 
-// The octets that so many bits fill, rounded up. Nothing is added before the division, so nothing wraps.
+// The octets that so many bits fill, rounded up.
 pub fn rounded_up(bits: u64) -> u64
     ensures { (result ≡ rounded_up bits) × (result ≤ 2 ^ 61) }
 {
-    if bits % 8 == 0 {
-        return bits / 8;
-    }
-    bits / 8 + 1
+    bits.div_ceil(8)
 }
 
 // All of src, stored in dst from place at on.
@@ -82,11 +73,7 @@ pub fn copy(src: &[u8], dst: &mut [u8], at: usize)
     requires { at + length src.now ≤ length dst.old }
     ensures { dst.new ≡ put dst.old at src.now }
 {
-    let mut i: usize = 0;
-    while i < src.len() {
-        dst[at + i] = src[i];
-        i += 1;
-    }
+    dst[at..at + src.len()].copy_from_slice(src);
 }
 
 // n zeros from place at on.
@@ -94,11 +81,7 @@ pub fn blank(dst: &mut [u8], at: usize, n: usize)
     requires { at + n ≤ length dst.old }
     ensures { dst.new ≡ put dst.old at (replicate n 0) }
 {
-    let mut i: usize = 0;
-    while i < n {
-        dst[at + i] = 0;
-        i += 1;
-    }
+    dst[at..at + n].fill(0);
 }
 
 // The number v, in the w octets from place at on.
@@ -107,9 +90,7 @@ pub fn store(dst: &mut [u8], at: usize, w: usize, v: u64)
     ensures { dst.new ≡ put dst.old at (in_octets w v) }
 {
     let mut left = v;
-    let mut i = w;
-    while i > 0 {
-        i -= 1;
+    for i in (0..w).rev() {
         dst[at + i] = (left % 256) as u8;
         left = left / 256;
     }

@@ -23,7 +23,7 @@ fn tally_block(owner: &[u8], b: usize, tally: &mut [u16])
     ensures { Tallies (take (b + 1) owner.now) tally.new }
 {
     let o = owner[b] as usize;
-    tally[o] = tally[o] + 1;
+    tally[o] += 1;
 }
 
 // Four blocks more, with no test between them.
@@ -38,19 +38,19 @@ fn tally_four(owner: &[u8], b: usize, tally: &mut [u16])
     tally_block(owner, b + 3, tally);
 }
 
-// The first blocks of n, eight a turn, in a tally of none; how many they are: the turns end where fewer than eight are left.
+// The first blocks of n, eight a turn, in a tally of none; how many they are: fewer than eight are left.
 fn tally_eights(owner: &[u8], n: usize, tally: &mut [u16]) -> usize
     requires n_bound { (n ≤ 4096) × (n ≤ length owner.now) × (length tally.old ≡ 256) }
     requires tallies { Tallies (take 0 owner.now) tally.old }
     ensures { (result ≤ n) × Tallies (take result owner.now) tally.new }
 {
-    let mut b: usize = 0;
-    while n - b >= 8 {
+    let turns = n / 8;
+    for turn in 0..turns {
+        let b = turn * 8;
         tally_four(owner, b, tally);
         tally_four(owner, b + 4, tally);
-        b += 8;
     }
-    b
+    turns * 8
 }
 
 // How often each octet stands among the first n owners. No block is tested: whether an octet is an owner is asked of the tally.
@@ -59,10 +59,9 @@ fn tally_owners(owner: &[u8], n: usize) -> [u16; TALLIES]
     ensures { Tallies (take n owner.now) result }
 {
     let mut tally = [0u16; TALLIES];
-    let mut b = tally_eights(owner, n, &mut tally);
-    while b < n {
+    let eights = tally_eights(owner, n, &mut tally);
+    for b in eights..n {
         tally_block(owner, b, &mut tally);
-        b += 1;
     }
     tally
 }
@@ -72,10 +71,8 @@ fn no_strays(tally: [u16; TALLIES]) -> bool
     ensures { result ≡ all_zero (part 33 223 tally) }
 {
     let mut any: u16 = 0;
-    let mut o = Station::LAST_OWNER as usize + 1;
-    while o < TALLIES {
-        any = any | tally[o];
-        o += 1;
+    for o in Station::LAST_OWNER as usize + 1..TALLIES {
+        any |= tally[o];
     }
     any == 0
 }
@@ -85,11 +82,7 @@ fn slots_part(tally: [u16; TALLIES]) -> [u16; Station::SLOTS]
     ensures { result ≡ part 1 32 tally }
 {
     let mut counts = [0u16; Station::SLOTS];
-    let mut k: usize = 0;
-    while k < Station::SLOTS {
-        counts[k] = tally[k + 1];
-        k += 1;
-    }
+    counts.copy_from_slice(&tally[1..Station::SLOTS + 1]);
     counts
 }
 
@@ -108,8 +101,5 @@ pub fn count_owners(owner: &[u8], n: usize) -> Owners
     let tally = tally_owners(owner, n);
     let good = no_strays(tally);
     let counts = slots_part(tally);
-    Owners {
-        good: good,
-        counts: counts,
-    }
+    Owners { good, counts }
 }

@@ -1,5 +1,4 @@
 -- Laws of the packet that the crates above cite.
-pub mod Tags
 pub mod Fields
 pub mod Looks
 pub mod Made

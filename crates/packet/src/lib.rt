@@ -8,14 +8,8 @@ ghost use Rattle.packet.specs.Kinds.{checked_application, kind_of, checked_count
 ghost use Rattle.packet.specs.Header.{packet_of, Bounded, size_of, bad, look_of};
 
 // An application number. It cannot stand for a channel number, nor the other way round.
-#[derive(Clone, Copy)]
+#[derive(Clone, Copy, PartialEq, Eq)]
 pub struct Application(pub u16);
-
-#[derive(Clone, Copy)]
-pub enum CheckedApplication {
-    Good(Application),
-    Bad,
-}
 
 // What an application's packets are for.
 #[derive(Clone, Copy)]
@@ -36,13 +30,13 @@ impl Application {
     pub const FILL: u16 = 2047;
 
     // For a number from outside. Up to now applications come in headers alone, whose eleven bits keep to the range (`Packet::read`).
-    pub fn checked(n: u16) -> CheckedApplication
+    pub fn checked(n: u16) -> Option<Application>
         ensures { result ≡ checked_application n }
     {
         if n <= Application::FILL {
-            return CheckedApplication::Good(Application(n));
+            return Some(Application(n));
         }
-        CheckedApplication::Bad
+        None
     }
 
     pub fn kind(self) -> Kind
@@ -59,25 +53,19 @@ impl Application {
 }
 
 // A packet count: the packets of one application count modulo 16,384.
-#[derive(Clone, Copy)]
+#[derive(Clone, Copy, PartialEq, Eq)]
 pub struct Count(pub u16);
-
-#[derive(Clone, Copy)]
-pub enum CheckedCount {
-    Good(Count),
-    Bad,
-}
 
 impl Count {
     pub const MODULUS: u16 = 16384;
 
-    pub fn checked(n: u16) -> CheckedCount
+    pub fn checked(n: u16) -> Option<Count>
         ensures { result ≡ checked_count n }
     {
         if n < Count::MODULUS {
-            return CheckedCount::Good(Count(n));
+            return Some(Count(n));
         }
-        CheckedCount::Bad
+        None
     }
 
     pub fn next(self) -> Count
@@ -91,8 +79,7 @@ impl Count {
     pub fn follows(self, last: Count) -> bool
         ensures { result ≡ count_follows last self }
     {
-        let n = last.next();
-        self.0 == n.0
+        self == last.next()
     }
 }
 
@@ -140,9 +127,9 @@ impl Packet {
         let count = Count(second % Count::MODULUS);
         Packet {
             version: (first / 8192) as u8,
-            application: application,
+            application,
             flags: (second / Count::MODULUS) as u8,
-            count: count,
+            count,
             length: octets::u16_at(s, 4),
         }
     }

@@ -3,7 +3,6 @@ use mathlib.Core.Path.{◌≡◌, refl, sym, ap, ◌∙◌}
 use mathlib.Core.List.{List, [], ◌∷◌, ◌++◌, flat_map}
 use Prim.Native.Nat.{ℕ, min, ◌+◌, ◌-◌, ◌*◌, ◌≤◌, ◌<◌}
 use native.Mathlib.Nat.{sub-zero}
-use native.Mathlib.Decide.{dec_lt}
 use native.Mathlib.Omega.{arith}
 use lib.ListN.{length, get_or, take, length-append}
 use Rattle.octets.specs.Number.{part}
@@ -65,26 +64,18 @@ copying-first owner n o store from before f s h =
 
 module _ {owner : List ℕ} {n o : ℕ} {store : List ℕ} {from : ℕ} {before after : List ℕ} {skip done b : ℕ}
     (m : Copying owner n o store from before after skip done b) where
-  module _ (more : done < length after) where
-    -- while octets are wanted there is a block
-    pub copying-low : b < n
-    copying-low =
-        elim (dec_lt b n) [
-          | yes l ↦ l
-          | no f ↦ absurd (omega (arith, m.enough, ap length (ahead_none o n owner b (omega arith))))
-        ]
-
+  module _ (low : b < n) where
     pub copying-past : (get_or owner b 0 ≡ o → ⊥) → Copying owner n o store from before after skip done (b + 1)
     copying-past f =
-        let e = ahead_past o n owner b copying-low m.fits f in
+        let e = ahead_past o n owner b low m.fits f in
         record { fits = m.fits; stored = m.stored; long = m.long; enough = rw e at m.enough; gives = m.gives ∙ rw e }
 
     module _ (here : get_or owner b 0 ≡ o) where
       block-long : length (block_octets store b) ≡ 8190
-      block-long = length-block store b (omega (arith, copying-low, m.stored))
+      block-long = length-block store b (omega (arith, m.stored))
 
       split : ahead o b n owner ≡ b ∷ ahead o (b + 1) n owner
-      split = ahead-here o n owner b copying-low m.fits here
+      split = ahead-here o n owner b low m.fits here
 
       octets-split : joined store (ahead o b n owner) ≡ block_octets store b ++ joined store (ahead o (b + 1) n owner)
       octets-split = ap (joined store) split ∙ joined-cons store b (ahead o (b + 1) n owner)
@@ -120,7 +111,7 @@ module _ {owner : List ℕ} {n o : ℕ} {store : List ℕ} {from : ℕ} {before 
           let stores : after' ≡ put after done es = rw (count, place) at e in
           let same : length after' ≡ length after = ap length stores ∙ length-put after done es in
           let cut : length after - done ≡ size + rest = omega arith in
-          let full : length es ≡ size = whole_part store (8190 * b + skip) size (omega (arith, copying-low, m.stored)) in
+          let full : length es ≡ size = whole_part store (8190 * b + skip) size (omega (arith, m.stored)) in
           let copied : part skip size (block ++ later) ≡ es =
           part_left block later skip size (omega (arith, block-long)) ∙ part-part store (8190 * b) 8190 skip size (omega arith) in
           let left : part (skip + size) rest (block ++ later) ≡ part 0 rest later =
@@ -134,6 +125,10 @@ module _ {owner : List ℕ} {n o : ℕ} {store : List ℕ} {from : ℕ} {before 
             enough = omega (arith, m.enough, ap length split);
             gives = m.gives ∙ ap (put after done) both ∙ sym (put-put es after done (part 0 rest later)) ∙ rw (full, same, stores);
           }
+
+  -- behind the last block no octet is wanted
+  pub copying-full : n ≤ b → length after ≤ done
+  copying-full h = omega (arith, m.enough, ap length (ahead_none o n owner b h))
 
   pub copying-all : length after ≤ done → after ≡ part from (length before) (joined store (numbers_of o 0 (take n owner)))
   copying-all h =

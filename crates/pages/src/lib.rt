@@ -18,9 +18,11 @@ pub fn copy_out(owner: &[u8], n: usize, o: u8, store: &[u8], from: usize, buffer
     ensures { buffer.new ≡ part from (length buffer.old) (joined store.now (numbers_of o 0 (take n owner.now))) }
 {
     let mut skip = from;
-    let mut done: usize = 0;
-    let mut b: usize = 0;
-    while done < buffer.len() {
+    let mut done = 0;
+    for b in 0..n {
+        if buffer.len() <= done {
+            return;
+        }
         if owner[b] == o {
             if skip < Transport::BLOCK {
                 let size = octets::least(Transport::BLOCK - skip, buffer.len() - done);
@@ -29,13 +31,9 @@ pub fn copy_out(owner: &[u8], n: usize, o: u8, store: &[u8], from: usize, buffer
                 octets::copy(&store[at..end], buffer, done);
                 done += size;
                 skip = 0;
-                b += 1;
             } else {
                 skip -= Transport::BLOCK;
-                b += 1;
             }
-        } else {
-            b += 1;
         }
     }
 }

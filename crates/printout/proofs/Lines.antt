@@ -26,7 +26,6 @@ left_of xs i j = list_of i (drop i (files_of xs)) (drop j (images_of xs))
 
 -- the lines of the first i files were written, which took j images; those of the others, with the images that are left, give the whole
 pub record Filing (xs : List ℕ) (at : Places) (before out : List ℕ) (end i j : ℕ) : Type 0 where
-  pub within : i ≤ at.files
   pub images : j ≤ at.images
   pub slow : j ≤ i
   pub few : end ≤ 273 * i
@@ -36,7 +35,7 @@ pub record Filing (xs : List ℕ) (at : Places) (before out : List ℕ) (end i j
 pub filing-none : (xs : List ℕ) (at : Places) (before : List ℕ) → Filing xs at before before 0 0 0
 unfolding listed
 filing-none xs at before =
-    record { within = omega arith; images = omega arith; slow = omega arith; few = omega arith; room = refl; gives = begun before (file_lines 0 (listed xs)) 0 }
+    record { images = omega arith; slow = omega arith; few = omega arith; room = refl; gives = begun before (file_lines 0 (listed xs)) 0 }
 
 left-next : (xs : List ℕ) (i j : ℕ) → i < length (files_of xs)
     → file_lines i (left_of xs i j) ≡ file_line i (entry_at xs i j) ++ file_lines (i + 1) (left_of xs (i + 1) (j + taken (entry_at xs i j).image))
@@ -56,7 +55,6 @@ module _ {xs : List ℕ} {at : Places} (L : Lies xs at) {before out : List ℕ} 
       let m = image-count L in
       let n : k ≡ taken (entry_at xs i j).image = t ∙ ap (λ (x : Entry). taken x.image) q in
       record {
-        within = omega arith;
         images = omega (arith, n, taken-few i (drop j (images_of xs)), length-drop j (images_of xs), g.images);
         slow = omega (arith, g.slow);
         few = omega (arith, g.few);
@@ -72,14 +70,13 @@ module _ {xs : List ℕ} {at : Places} (L : Lies xs at) {before out : List ℕ} 
 
 -- the same of the channels
 pub record Listing (xs : List ℕ) (at : Places) (before : List ℕ) (start : ℕ) (out : List ℕ) (end i : ℕ) : Type 0 where
-  pub within : i ≤ at.channels
   pub few : end ≤ start + 56 * i
   pub room : length out ≡ length before
   pub gives : Writing before start (channel_lines (channels_of xs)) out end (channel_lines (drop i (channels_of xs)))
 
 pub listing_none : (xs : List ℕ) (at : Places) (before : List ℕ) (start : ℕ) → Listing xs at before start before start 0
 listing_none xs at before start =
-    record { within = omega arith; few = omega arith; room = refl; gives = begun before (channel_lines (channels_of xs)) start }
+    record { few = omega arith; room = refl; gives = begun before (channel_lines (channels_of xs)) start }
 
 channels-next : (rs : List Row) (i : ℕ) → i < length rs
     → channel_lines (drop i rs) ≡ channel_line (get_or (get_or rs i []) 0 0) (get_or (get_or rs i []) 1 0) ++ channel_lines (drop (i + 1) rs)
@@ -93,7 +90,6 @@ module _ {xs : List ℕ} {at : Places} (L : Lies xs at) {before out : List ℕ} 
   listing-more {e} h q few room w =
       let stands : e ≡ channel_entry (get_or (channels_of xs) i []) = q ∙ ap (λ (r : Row). channel_entry r) (sym (channel-stands L i h)) in
       record {
-        within = omega arith;
         few = omega (arith, g.few);
         room = room ∙ g.room;
         gives = went_on (rw (channels-next (channels_of xs) i (omega (arith, channel-count L))) at g.gives) (rw stands at w);

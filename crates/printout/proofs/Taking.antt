@@ -1,5 +1,6 @@
 -- The list that the sections stand for, taken from them file by file. Assumes nothing.
-use Rattle.std.specs.Prelude.{if◌then◌else◌}
+use Rattle.catalogue.specs.declared.Picture.{Picture}
+use Rattle.std.specs.Prelude.{if◌then◌else◌, Option, Some, None}
 use mathlib.Core.Path.{◌≡◌, refl, sym, ap, ap₂, ◌∙◌}
 use mathlib.Core.Bool.{Bool, true, false}
 use mathlib.Core.List.{List, [], ◌∷◌}
@@ -11,8 +12,6 @@ use lib.ListN.{length, get_or, drop, drop_of_length-le}
 use lib.Seq.{drop-cons}
 use Rattle.octets.proofs.Lists.{if-cases}
 use Rattle.sections.specs.Sections.{Row, values}
-use Rattle.catalogue.specs.declared.Image.{Image}
-use Rattle.catalogue.specs.declared.Image.TheVariants.{Absent, There}
 use Rattle.catalogue.specs.declared.FileEntry.{FileEntry}
 use Rattle.catalogue.specs.declared.ImageEntry.{ImageEntry}
 use Rattle.catalogue.specs.declared.Places.{Places}
@@ -30,8 +29,8 @@ list-next i f fs [] = refl
 list-next i f fs (r ∷ rs) = go (eqb (get_or r 0 0) i)
   where
     go : (b : Bool)
-        → (if b then entry_of f (image_of r) ∷ list_of (suc i) fs rs else entry_of f Absent ∷ list_of (suc i) fs (r ∷ rs))
-        ≡ entry_of f (if b then image_of r else Absent) ∷ list_of (suc i) fs (drop (taken (if b then image_of r else Absent)) (r ∷ rs))
+        → (if b then entry_of f (image_of r) ∷ list_of (suc i) fs rs else entry_of f None ∷ list_of (suc i) fs (r ∷ rs))
+        ≡ entry_of f (if b then image_of r else None) ∷ list_of (suc i) fs (drop (taken (if b then image_of r else None)) (r ∷ rs))
     go true = refl
     go false = refl
 
@@ -39,14 +38,14 @@ list-next i f fs (r ∷ rs) = go (eqb (get_or r 0 0) i)
 pub taken-few : (i : ℕ) (rs : List Row) → taken (image_for i rs) ≤ length rs
 unfolding image_for
 taken-few i [] = omega arith
-taken-few i (r ∷ rs) = if-cases (λ (p : Image). taken p ≤ suc (length rs)) (eqb (get_or r 0 0) i) (λ q. omega arith) (λ q. omega arith)
+taken-few i (r ∷ rs) = if-cases (λ (p : Option Picture). taken p ≤ suc (length rs)) (eqb (get_or r 0 0) i) (λ q. omega arith) (λ q. omega arith)
 
-for-none : (i : ℕ) {rs : List Row} → rs ≡ [] → Absent ≡ image_for i rs
+for-none : (i : ℕ) {rs : List Row} → rs ≡ [] → None ≡ image_for i rs
 unfolding image_for
 for-none i e = rw e
 
 module _ (i : ℕ) {r : Row} {rest rs : List Row} (e : rs ≡ r ∷ rest) where
-  for-other : (get_or r 0 0 ≡ i → ⊥) → Absent ≡ image_for i rs
+  for-other : (get_or r 0 0 ≡ i → ⊥) → None ≡ image_for i rs
   unfolding image_for
   for-other n = rw (e, ne_eqb (get_or r 0 0) i n)
 
@@ -56,7 +55,7 @@ module _ (i : ℕ) {r : Row} {rest rs : List Row} (e : rs ≡ r ∷ rest) where
 
 module _ {xs : List ℕ} {at : Places} (L : Lies xs at) (i j : ℕ) where
   -- no image is left
-  pub image-none : j ≡ at.images → Absent ≡ image_for i (drop j (images_of xs))
+  pub image-none : j ≡ at.images → None ≡ image_for i (drop j (images_of xs))
   image-none h =
       let all : length (images_of xs) ≤ j = omega (arith, image-count L) in
       for-none i (drop_of_length-le (images_of xs) all)
@@ -72,13 +71,13 @@ module _ {xs : List ℕ} {at : Places} (L : Lies xs at) (i j : ℕ) where
     index : e.index ≡ get_or (get_or (images_of xs) j []) 0 0
     index = ap (λ (x : ImageEntry). x.index) stands
 
-    pub image-other : (e.index ≡ i → ⊥) → Absent ≡ image_for i (drop j (images_of xs))
+    pub image-other : (e.index ≡ i → ⊥) → None ≡ image_for i (drop j (images_of xs))
     image-other n = for-other i left (λ q. n (index ∙ q))
 
-    pub image-this : e.index ≡ i → There e.picture ≡ image_for i (drop j (images_of xs))
-    image-this q = ap (λ (x : ImageEntry). There x.picture) stands ∙ for-this i left (sym index ∙ q)
+    pub image-this : e.index ≡ i → Some e.picture ≡ image_for i (drop j (images_of xs))
+    image-this q = ap (λ (x : ImageEntry). Some x.picture) stands ∙ for-this i left (sym index ∙ q)
 
-  pub entry-made : i < at.files → {f : FileEntry} {p : Image} → f ≡ file_entry (values file_widths xs (2 + i * 14))
+  pub entry-made : i < at.files → {f : FileEntry} {p : Option Picture} → f ≡ file_entry (values file_widths xs (2 + i * 14))
       → p ≡ image_for i (drop j (images_of xs)) → record { facts = f.facts; kind = f.kind; image = p } ≡ entry_at xs i j
   entry-made h {f} {p} e q =
-      ap₂ (λ (x : FileEntry) (y : Image). record { facts = x.facts; kind = x.kind; image = y }) (e ∙ ap (λ (r : Row). file_entry r) (sym (file-stands L i h))) q
+      ap₂ (λ (x : FileEntry) (y : Option Picture). record { facts = x.facts; kind = x.kind; image = y }) (e ∙ ap (λ (r : Row). file_entry r) (sym (file-stands L i h))) q

@@ -1,4 +1,5 @@
 -- The whole text, from its parts. Assumes nothing.
+use Rattle.std.specs.Prelude.{Option, Some, None}
 use mathlib.Core.Path.{◌≡◌, sym, ap, ◌∙◌}
 use mathlib.Core.Bool.{true}
 use mathlib.Core.List.{List, map}
@@ -10,8 +11,6 @@ use Rattle.text.specs.Pieces.{Written}
 use Rattle.text.proofs.Following.{at_front, behind}
 use Rattle.sections.specs.Sections.{whole}
 use Rattle.catalogue.specs.declared.Places.{Places}
-use Rattle.catalogue.specs.declared.Found.{Found}
-use Rattle.catalogue.specs.declared.Found.TheVariants.{At, Nowhere}
 use Rattle.catalogue.specs.Catalogue.{channel_of, how_many, widths, files_of, images_of, channels_of, good_tables, accepts, listed}
 use Rattle.catalogue.specs.Reading.{found_in, Lies}
 use Rattle.catalogue.proofs.Exact.{table-few, table-counts, few-channels}
@@ -28,7 +27,7 @@ pub record Few (at : Places) : Type 0 where
   pub files : at.files ≤ 1024
   pub channels : at.channels ≤ 63
 
-module _ (xs : List ℕ) {f : Found} (e : f ≡ found_in xs) {at : Places} (q : f ≡ At at) where
+module _ (xs : List ℕ) {f : Option Places} (e : f ≡ found_in xs) {at : Places} (q : f ≡ Some at) where
   pub lies : Lies xs at
   lies = (found-lies (sym e ∙ q)).1
 
@@ -50,7 +49,7 @@ module _ (xs : List ℕ) {f : Found} (e : f ≡ found_in xs) {at : Places} (q : 
       at_front (behind (behind u v) w) h
       ∙ sym (rw ((found-lies (sym e ∙ q)).0, file-count lies, image-count lies, channel-count lies))
 
-pub printed-none : (xs : List ℕ) {f : Found} → f ≡ found_in xs → f ≡ Nowhere → {before after : List ℕ} {end : ℕ} → Written before 0 refused_line after end
+pub printed-none : (xs : List ℕ) {f : Option Places} → f ≡ found_in xs → f ≡ None → {before after : List ℕ} {end : ℕ} → Written before 0 refused_line after end
     → end ≤ length before → take end after ≡ printed xs
 unfolding printed
 printed-none xs e q w h = at_front w h ∙ sym (rw (found_none xs (sym e ∙ q)))

@@ -1,12 +1,10 @@
 -- What is printed of the octets that were read (docs/CATALOGUE.md, `printout`). Assumes nothing.
-use Rattle.std.specs.Prelude.{List, [], ◌∷◌, ◌++◌, ℕ, suc, length, get_or, if◌then◌else◌}
+use Rattle.std.specs.Prelude.{List, [], ◌∷◌, ◌++◌, ℕ, suc, length, get_or, if◌then◌else◌, Option, Some, None}
 use Rattle.text.specs.Pieces.{ascii, spaced}
 use Rattle.text.specs.Lines.{spaced_three, newline}
 use Rattle.facts.specs.declared.Facts.{Facts}
 use Rattle.sections.specs.Sections.{Row}
 use Rattle.catalogue.specs.declared.Picture.{Picture}
-use Rattle.catalogue.specs.declared.Image.{Image}
-use Rattle.catalogue.specs.declared.Image.TheVariants.{Absent, There}
 use Rattle.catalogue.specs.declared.Entry.{Entry}
 use Rattle.catalogue.specs.Catalogue.{accepts, files_of, images_of, channels_of, listed}
 
@@ -25,9 +23,9 @@ abbrev pub picture_text : Picture → List ℕ
 picture_text p = both (ascii " image") p.columns (ascii " by") p.lines ++ both (ascii " segment") p.number (ascii " of") p.total
 
 -- "The part from `image` on stands only where the file has an entry in the image section."
-abbrev pub image_text : Image → List ℕ
-image_text Absent = []
-image_text (There p) = picture_text p
+abbrev pub image_text : Option Picture → List ℕ
+image_text None = []
+image_text (Some p) = picture_text p
 
 abbrev pub file_line : ℕ → Entry → List ℕ
 file_line i e = facts_text i e.facts e.kind ++ image_text e.image ++ newline

@@ -11,7 +11,7 @@ ghost use Rattle.catalogue.specs.Reading.{Lies};
 ghost use Rattle.printout.specs.Printed.{both, facts_text, image_text, file_line, file_lines, channel_line, channel_lines, end_line, refused_line, printed};
 ghost use Rattle.printout.specs.Left.{image_for, taken as taken_by, entry_at};
 
-use catalogue::{ChannelEntry, Entry, Found, Image, Places};
+use catalogue::{ChannelEntry, Entry, Picture, Places};
 use facts::Facts;
 use std::io::{Stdin, Stdout};
 
@@ -40,12 +40,10 @@ fn facts_text(i: usize, f: Facts, kind: u8, out: &mut [u8], at: usize) -> usize
     requires { at + 168 ≤ length out.old }
     ensures { (result ≤ at + 168) × Written out.old at (facts_text i f kind) out.new result }
 {
-    let channel = f.channel;
-    let application = f.application;
-    let first = two_numbers(b"file", i as u64, b" channel", channel.0 as u64, out, at);
+    let first = two_numbers(b"file", i as u64, b" channel", f.channel.0 as u64, out, at);
     let second = two_numbers(
         b" application",
-        application.0 as u64,
+        f.application.0 as u64,
         b" counter",
         f.counter as u64,
         out,
@@ -54,11 +52,11 @@ fn facts_text(i: usize, f: Facts, kind: u8, out: &mut [u8], at: usize) -> usize
     two_numbers(b" bits", f.bits, b" type", kind as u64, out, second)
 }
 
-fn image_text(image: Image, out: &mut [u8], at: usize) -> usize
+fn image_text(image: Option<Picture>, out: &mut [u8], at: usize) -> usize
     requires { at + 104 ≤ length out.old }
     ensures { (result ≤ at + 104) × Written out.old at (image_text image) out.new result }
 {
-    let Image::There(p) = image else {
+    let Some(p) = image else {
         return at;
     };
     let size = two_numbers(b" image", p.columns as u64, b" by", p.lines as u64, out, at);
@@ -76,27 +74,24 @@ fn file_line(i: usize, e: Entry, out: &mut [u8], at: usize) -> usize
     requires { at + 273 ≤ length out.old }
     ensures { (result ≤ at + 273) × Written out.old at (file_line i e) out.new result }
 {
-    let facts = e.facts;
-    let image = e.image;
-    let first = facts_text(i, facts, e.kind, out, at);
-    let last = image_text(image, out, first);
+    let first = facts_text(i, e.facts, e.kind, out, at);
+    let last = image_text(e.image, out, first);
     text::line_end(out, last)
 }
 
 // The image of file i, if the first one that is left is that: j images were taken.
-fn image_for(s: &[u8], at: Places, i: usize, j: usize) -> Image
+fn image_for(s: &[u8], at: Places, i: usize, j: usize) -> Option<Picture>
     requires { Lies s.now at × (j ≤ at.images) }
     ensures { result ≡ image_for i (drop j (images_of s.now)) }
 {
     if j == at.images {
-        return Image::Absent;
+        return None;
     }
     let e = ask::image_entry(s, at.second + 2 + j * Entry::IMAGE);
     if e.index as usize != i {
-        return Image::Absent;
+        return None;
     }
-    let picture = e.picture;
-    Image::There(picture)
+    Some(e.picture)
 }
 
 // File i, if j images were taken by those in front of it.
@@ -105,23 +100,18 @@ fn entry_at(s: &[u8], at: Places, i: usize, j: usize) -> Entry
     ensures { result ≡ entry_at s.now i j }
 {
     let f = ask::file_entry(s, 2 + i * Entry::FILE);
-    let image = image_for(s, at, i, j);
-    let facts = f.facts;
     Entry {
-        facts: facts,
+        facts: f.facts,
         kind: f.kind,
-        image: image,
+        image: image_for(s, at, i, j),
     }
 }
 
 // How many images a file takes.
-fn taken(image: Image) -> usize
+fn taken(image: Option<Picture>) -> usize
     ensures { (result ≤ 1) × (result ≡ taken_by image) }
 {
-    let Image::There(p) = image else {
-        return 0;
-    };
-    1
+    image.is_some() as usize
 }
 
 // Files and images are gone through together, so that the cost grows as the octets.
@@ -130,14 +120,11 @@ fn file_lines(s: &[u8], at: Places, out: &mut [u8]) -> usize
     ensures { (result ≤ 273 * at.files) × Written out.old 0 (file_lines 0 (listed s.now)) out.new result }
 {
     let mut end: usize = 0;
-    let mut i: usize = 0;
     let mut j: usize = 0;
-    while i < at.files {
+    for i in 0..at.files {
         let e = entry_at(s, at, i, j);
         end = file_line(i, e, out, end);
-        let image = e.image;
-        j += taken(image);
-        i += 1;
+        j += taken(e.image);
     }
     end
 }
@@ -146,10 +133,9 @@ fn channel_line(e: ChannelEntry, out: &mut [u8], at: usize) -> usize
     requires { at + 56 ≤ length out.old }
     ensures { (result ≤ at + 56) × Written out.old at (channel_line e.channel.0 e.files) out.new result }
 {
-    let channel = e.channel;
     let last = two_numbers(
         b"channel",
-        channel.0 as u64,
+        e.channel.0 as u64,
         b" files",
         e.files as u64,
         out,
@@ -163,11 +149,9 @@ fn channel_lines(s: &[u8], at: Places, out: &mut [u8], start: usize) -> usize
     ensures { (result ≤ start + 56 * at.channels) × Written out.old start (channel_lines (channels_of s.now)) out.new result }
 {
     let mut end = start;
-    let mut i: usize = 0;
-    while i < at.channels {
+    for i in 0..at.channels {
         let e = ask::channel_entry(s, at.third + 2 + i * Entry::CHANNEL);
         end = channel_line(e, out, end);
-        i += 1;
     }
     end
 }
@@ -200,15 +184,12 @@ fn print(s: &[u8], out: &mut [u8]) -> usize
     requires { length out.old ≡ 283147 }
     ensures { (result ≤ 283147) × (take result out.new ≡ printed s.now) }
 {
-    let found = catalogue::find(s);
-    match found {
-        Found::Nowhere => refused_line(out),
-        Found::At(at) => {
-            let files = file_lines(s, at, out);
-            let channels = channel_lines(s, at, out, files);
-            end_line(at, out, channels)
-        }
-    }
+    let Some(at) = catalogue::find(s) else {
+        return refused_line(out);
+    };
+    let files = file_lines(s, at, out);
+    let channels = channel_lines(s, at, out, files);
+    end_line(at, out, channels)
 }
 
 // Both lengths are asked for: a shorter buffer could cut a catalogue, or its text.

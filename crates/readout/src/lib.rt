@@ -10,10 +10,7 @@ ghost use Rattle.text.specs.Pieces.{Written, ascii, in_hex};
 ghost use Rattle.records.specs.Reader.{read_header, read_record};
 ghost use Rattle.readout.specs.Readout.{signed_text, signed_pair, primary_text, image_text, navigation_text, time_text, segment_text, fields_text, header_text, record_text};
 
-use records::{
-    Header, HeaderRead, ImageNavigation, ImageSegment, ImageStructure, Primary, RecordAnswer,
-    TimeStamp,
-};
+use records::{Header, Image, Navigation, Primary, Segment, Time};
 
 // How far a number is from zero.
 fn magnitude(v: i32) -> u64
@@ -56,11 +53,11 @@ fn primary(p: Primary, out: &mut [u8], at: usize) -> usize
     )
 }
 
-fn image(i: ImageStructure, out: &mut [u8], at: usize) -> usize
+fn image(i: Option<Image>, out: &mut [u8], at: usize) -> usize
     requires { at + 90 ≤ length out.old }
     ensures { (result ≤ at + 90) × Written out.old at (image_text i) out.new result }
 {
-    let ImageStructure::There(x) = i else {
+    let Some(x) = i else {
         return at;
     };
     let third = text::with_three(
@@ -82,23 +79,23 @@ fn named(name: &[u8], out: &mut [u8], at: usize) -> usize
     text::hex_octets(name, out, word)
 }
 
-fn navigation(n: ImageNavigation, name: &[u8], out: &mut [u8], at: usize) -> usize
-    requires { (at + 164 ≤ length out.old) × (length name.now ≡ 32) }
-    ensures { (result ≤ at + 164) × Written out.old at (navigation_text name.now n) out.new result }
+fn navigation(n: Option<Navigation>, out: &mut [u8], at: usize) -> usize
+    requires { at + 164 ≤ length out.old }
+    ensures { (result ≤ at + 164) × Written out.old at (navigation_text n) out.new result }
 {
-    let ImageNavigation::There(x) = n else {
+    let Some(x) = n else {
         return at;
     };
-    let first = named(name, out, at);
+    let first = named(&x.name, out, at);
     let third = signed_pair(x.cfac, x.lfac, out, first);
     signed_pair(x.coff, x.loff, out, third)
 }
 
-fn time(t: TimeStamp, out: &mut [u8], at: usize) -> usize
+fn time(t: Option<Time>, out: &mut [u8], at: usize) -> usize
     requires { at + 68 ≤ length out.old }
     ensures { (result ≤ at + 68) × Written out.old at (time_text t) out.new result }
 {
-    let TimeStamp::There(x) = t else {
+    let Some(x) = t else {
         return at;
     };
     text::with_three(
@@ -111,11 +108,11 @@ fn time(t: TimeStamp, out: &mut [u8], at: usize) -> usize
     )
 }
 
-fn segment(s: ImageSegment, out: &mut [u8], at: usize) -> usize
+fn segment(s: Option<Segment>, out: &mut [u8], at: usize) -> usize
     requires { at + 71 ≤ length out.old }
     ensures { (result ≤ at + 71) × Written out.old at (segment_text s) out.new result }
 {
-    let ImageSegment::There(x) = s else {
+    let Some(x) = s else {
         return at;
     };
     text::with_three(
@@ -128,37 +125,26 @@ fn segment(s: ImageSegment, out: &mut [u8], at: usize) -> usize
     )
 }
 
-// The fixed fields of a header, with the name beside them.
-fn fields(h: Header, name: &[u8], out: &mut [u8]) -> usize
-    requires { (length out.old ≡ 2051) × (length name.now ≡ 32) }
-    ensures { (result ≤ 2050) × Written out.old 0 (fields_text name.now h) out.new result }
+// The fixed fields of a header.
+fn fields(h: Header, out: &mut [u8]) -> usize
+    requires { length out.old ≡ 2051 }
+    ensures { (result ≤ 2050) × Written out.old 0 (fields_text h) out.new result }
 {
-    let primary_record = h.primary;
-    let image_record = h.image;
-    let navigation_record = h.navigation;
-    let time_record = h.time;
-    let segment_record = h.segment;
     let begun = text::with_number(b"H", 0, out, 0);
-    let first = primary(primary_record, out, begun);
-    let second = image(image_record, out, first);
-    let third = navigation(navigation_record, name, out, second);
-    let fourth = time(time_record, out, third);
-    segment(segment_record, out, fourth)
+    let first = primary(h.primary, out, begun);
+    let second = image(h.image, out, first);
+    let third = navigation(h.navigation, out, second);
+    let fourth = time(h.time, out, third);
+    segment(h.segment, out, fourth)
 }
 
 pub fn header_answer(q: &[u8], out: &mut [u8]) -> usize
     requires { length out.old ≡ 2051 }
     ensures { (result ≤ 2050) × Written out.old 0 (header_text (read_header q.now)) out.new result }
 {
-    let a = fields::read_header(q);
-    let read = a.read;
-    match read {
-        HeaderRead::Refused(n) => {
-            return text::with_number(b"H", n as u64, out, 0);
-        }
-        HeaderRead::Read(h) => {
-            return fields(h, &a.name, out);
-        }
+    match fields::read_header(q) {
+        Err(r) => text::with_number(b"H", r.0 as u64, out, 0),
+        Ok(h) => fields(h, out),
     }
 }
 
@@ -168,14 +154,11 @@ pub fn record_answer(q: &[u8], out: &mut [u8]) -> usize
     ensures { (result ≤ 2050) × Written out.old 0 (record_text (read_record (drop 2 q.now) (number_at q.now 0 2))) out.new result }
 {
     let n = octets::u16_at(q, 0) as usize;
-    let a = header::read_record(&q[2..], n);
-    match a {
-        RecordAnswer::Refused(number) => {
-            return text::with_number(b"R", number as u64, out, 0);
-        }
-        RecordAnswer::Found(r) => {
+    match header::read_record(&q[2..], n) {
+        Err(refusal) => text::with_number(b"R", refusal.0 as u64, out, 0),
+        Ok(r) => {
             let begun = text::with_number(b"R", 0, out, 0);
-            return text::numbers(r.kind as u64, r.place as u64, r.length as u64, out, begun);
+            text::numbers(r.kind as u64, r.place as u64, r.length as u64, out, begun)
         }
     }
 }

@@ -59,8 +59,7 @@ fn receive(
 {
     let f = reception::take_frame(s, desks, store, list, unit);
     tell(output, index, f.answer, f.events, list, out);
-    let after = f.station;
-    after
+    f.station
 }
 
 // The end of the input: how many frames there were, and how many octets were left over.
@@ -80,11 +79,9 @@ fn main(rt: HostRuntime) {
     let mut list = [0u16; LIST];
     let mut out = [0u8; LINES];
     let mut unit = [0u8; Frame::SIZE];
-    let channels = CHANNELS;
-    let fresh = station::set_up(SPACECRAFT, &channels, &mut desks, &store);
+    let fresh = station::set_up(SPACECRAFT, &CHANNELS, &mut desks, &store);
     let mut s = fresh.station;
-    let mut frames: u64 = 0;
-    while frames < u64::MAX {
+    for frames in 0..u64::MAX {
         let got = pipes::read_full(rt.stdin(), &mut unit);
         if got < Frame::SIZE {
             end(output, frames, got as u64, &mut out);
@@ -93,6 +90,5 @@ fn main(rt: HostRuntime) {
         s = receive(
             output, s, &mut desks, &mut store, &mut list, &unit, frames, &mut out,
         );
-        frames += 1;
     }
 }

@@ -3,7 +3,7 @@
 // Promises: everything that comes out is what the station's definition says of everything that came in (station specs/Frame.antt).
 #![tactic(auto)]
 
-ghost use Rattle.std.specs.Prelude.{◌≡◌, ◌&&◌, ◌<◌, leb, length};
+ghost use Rattle.std.specs.Prelude.{◌≡◌, ◌&&◌, ◌<◌, leb, length, Ok};
 ghost use Rattle.frame.specs.Header.{derandomised};
 ghost use Rattle.state.specs.Slots.{station_of};
 ghost use Rattle.state.specs.Sound.{DesksSound};
@@ -15,7 +15,8 @@ ghost use Rattle.station.specs.Frame.{frame_gives, channel_at, admitted, taken, 
 ghost use Rattle.reception.specs.Parts.{outcome_of};
 
 use events::Event;
-use frame::{Accepted, Examined, Frame};
+use frame::{Accepted, Frame};
+use refusals::Refusal;
 use state::{Desk, Head, Slot, Station};
 
 // The least numbers of an event list.
@@ -33,13 +34,9 @@ pub struct Framed {
 fn lent_right(channels: u8, blocks: u16, desks: &[u8], store: &[u8], list: &[u16]) -> bool
     ensures { result ≡ (desks_fit channels desks.now && store_fits blocks store.now && leb 900 (length list.now)) }
 {
-    if desks.len() != Desk::SIZE * (channels as usize) {
-        return false;
-    }
-    if !station::store_fits(blocks, store) {
-        return false;
-    }
-    list.len() >= LEAST_LIST
+    desks.len() == Desk::SIZE * (channels as usize)
+        && station::store_fits(blocks, store)
+        && LEAST_LIST <= list.len()
 }
 
 // Refusals 1 to 9. The scratch octets hold the derandomised frame afterwards, if it is not refused.
@@ -52,23 +49,21 @@ fn admit(
     list: &[u16],
     octets: &[u8],
     plain: &mut [u8],
-) -> Examined
+) -> Result<Accepted, Refusal>
     requires { (length owner.now ≡ 4096) × (length plain.old ≡ 1020) }
     ensures value { result ≡ admitted (station_of head owner.now slots) desks.now store.now list.now octets.now }
-    ensures plain_after { (a : Accepted) → result ≡ Examined.Good a → plain.new ≡ derandomised octets.now }
+    ensures plain_after { (a : Accepted) → result ≡ Ok a → plain.new ≡ derandomised octets.now }
 {
     if !lent_right(head.channels, head.blocks, desks, store, list) {
-        return Examined::Refused(1);
+        return Err(Refusal::LENT);
     }
     if !sound::are_parts_sound(head, owner, slots) {
-        return Examined::Refused(2);
+        return Err(Refusal::UNSOUND);
     }
-    let positions = head.desks;
-    if !desks::are_desks_sound(positions, head.channels, desks) {
-        return Examined::Refused(2);
+    if !desks::are_desks_sound(head.desks, head.channels, desks) {
+        return Err(Refusal::UNSOUND);
     }
-    let watched = head.watched;
-    examine::examine(octets, plain, head.spacecraft, watched, head.channels)
+    examine::examine(octets, plain, head.spacecraft, head.watched, head.channels)
 }
 
 // What comes of a frame: its answer and events, its desk with what that keeps now, and the slots.
@@ -97,17 +92,15 @@ fn take_accepted(
     ensures desk_bound { result.desk < 8 }
     ensures outcome { outcome_of head owner.new result desks.new store.new list.new ≡ taken (station_of head owner.old slots) list.old (walked (channel_at (station_of head owner.old slots) a.desk) (station_of head owner.old slots) desks.old store.old zone.now a) }
 {
-    let i = a.desk;
-    let channel = head.watched[i];
+    let channel = head.watched[a.desk];
     let done = carry::walk_frame(channel, head, owner, slots, a, zone, desks, store, list);
-    let after = done.slots;
-    let position = done.desk;
+    let slots = done.slots;
     Outcome {
         answer: 0,
         events: done.events,
-        desk: i,
-        position: position,
-        slots: after,
+        desk: a.desk,
+        position: done.desk,
+        slots,
     }
 }
 
@@ -126,21 +119,17 @@ fn take_parts(
     ensures outcome { outcome_of head owner.new result desks.new store.new list.new ≡ framed (station_of head owner.old slots) desks.old store.old list.old octets.now }
 {
     let mut plain = [0u8; Frame::CODED];
-    let e = admit(head, owner, slots, desks, store, list, octets, &mut plain);
-    match e {
-        Examined::Refused(n) => {
-            let position = head.desks[0];
-            return Outcome {
-                answer: n,
-                events: 0,
-                desk: 0,
-                position: position,
-                slots: slots,
-            };
-        }
-        Examined::Good(a) => {
+    match admit(head, owner, slots, desks, store, list, octets, &mut plain) {
+        Err(r) => Outcome {
+            answer: r.0,
+            events: 0,
+            desk: 0,
+            position: head.desks[0],
+            slots,
+        },
+        Ok(a) => {
             let zone = &plain[Frame::ZONE_AT..Frame::UNIT];
-            return take_accepted(a, head, owner, slots, zone, desks, store, list);
+            take_accepted(a, head, owner, slots, zone, desks, store, list)
         }
     }
 }
@@ -159,20 +148,17 @@ pub fn take_frame(
     let mut t = s;
     let watched = t.watched;
     let positions = t.desks;
-    let slots = t.slots;
     let head = Head {
         spacecraft: t.spacecraft,
         channels: t.channels,
-        watched: watched,
+        watched,
         desks: positions,
         blocks: t.blocks,
     };
-    let o = take_parts(head, &mut t.owner, slots, octets, desks, store, list);
-    let i = o.desk;
-    let position = o.position;
-    let after = o.slots;
-    t.slots = after;
-    t.desks[i] = position;
+    let o = take_parts(head, &mut t.owner, t.slots, octets, desks, store, list);
+    let slots = o.slots;
+    t.slots = slots;
+    t.desks[o.desk] = o.position;
     Framed {
         answer: o.answer,
         events: o.events,

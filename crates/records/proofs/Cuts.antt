@@ -1,9 +1,8 @@
--- The record that 23 refuses, by its three reasons, and where the next one begins. Assumes nothing.
-use mathlib.Core.Path.{◌≡◌, refl, ap, ◌∙◌}
-use mathlib.Core.Bool.{Bool, true, false, ◌||◌, or-true, true≢false}
-use Prim.Native.Nat.{ℕ, ◌+◌, ◌≤◌, ◌<◌}
-use native.Mathlib.Omega.{arith}
-use borrow.Author.Tests.{lt-ltb, le-ltb, ltb-false}
+-- A record that 23 does not refuse, and where the next one begins. Assumes nothing.
+use mathlib.Core.Path.{◌≡◌, refl}
+use mathlib.Core.Bool.{Bool, true, false, ◌||◌, true≢false}
+use Prim.Native.Nat.{ℕ, ◌+◌, ◌≤◌}
+use borrow.Author.Tests.{ltb-false}
 use lib.Dec.{ltb}
 use Rattle.records.specs.Records.{is_cut, after}
 use Rattle.records.specs.declared.Record.{Record}
@@ -14,24 +13,6 @@ or-neither true b e = absurd (true≢false e)
 or-neither false b e = (refl, e)
 
 module _ (end : ℕ) (r : Record) where
-  pub cut_short : r.length < 3 → is_cut end r ≡ true
-  unfolding is_cut
-  cut_short h = rw (lt-ltb r.length 3 h)
-
-  pub cut-past : end < r.place + r.length → is_cut end r ≡ true
-  unfolding is_cut
-  cut-past h =
-      ap (λ (past : Bool). ltb r.length 3 || past || ltb end (r.place + 3)) (lt-ltb end (r.place + r.length) h)
-      ∙ rw or-true
-
-  pub cut_left : end < r.place + 3 → is_cut end r ≡ true
-  unfolding is_cut
-  cut_left h = rw (lt-ltb end (r.place + 3) h, or-true)
-
-  pub uncut : 3 ≤ r.length → r.place + r.length ≤ end → is_cut end r ≡ false
-  unfolding is_cut
-  uncut h k = rw (le-ltb r.length 3 h, le-ltb end (r.place + r.length) k, le-ltb end (r.place + 3) (omega arith))
-
   pub uncut-within : is_cut end r ≡ false → (3 ≤ r.length) × (r.place + r.length ≤ end)
   unfolding is_cut
   uncut-within e =

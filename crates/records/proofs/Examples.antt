@@ -1,4 +1,6 @@
 -- Headers that are accepted, so that no theorem about accepted ones is empty, and headers on both sides of each refusal. Assumes nothing.
+use Rattle.refusals.specs.Refusals.{refuse}
+use Rattle.std.specs.Prelude.{Result, Some, None, Ok}
 use mathlib.Core.Path.{◌≡◌, refl}
 use mathlib.Core.Bool.{true}
 use mathlib.Core.List.{List, [], ◌∷◌, ◌++◌}
@@ -9,15 +11,10 @@ use Rattle.octets.specs.Each.{each}
 use Rattle.octets.specs.Number.{number, number_at, rounded_up}
 use Rattle.records.specs.Table.{fixed_types, length_of}
 use Rattle.records.specs.Records.{record_at, is_cut, after, records_from, records, seen_in, records_say, header_says, nth, place_of}
-use Rattle.records.specs.Reader.{primary_of, image_at, segment_at, image_of, navigation_of, name_of, time_of, segment_of, fields_of, refused_header, read_header, read_record, header_number}
+use Rattle.records.specs.Reader.{primary_of, image_at, segment_at, image_of, navigation_of, time_of, segment_of, fields_of, read_header, read_record, header_number}
 use Rattle.records.specs.Together.{Accepted}
-use Rattle.records.specs.declared.HeaderAnswer.{HeaderAnswer}
-use Rattle.records.specs.declared.HeaderRead.TheVariants.{Read}
-use Rattle.records.specs.declared.ImageStructure.TheVariants as image
-use Rattle.records.specs.declared.ImageNavigation.TheVariants as navigation
-use Rattle.records.specs.declared.TimeStamp.TheVariants as time
-use Rattle.records.specs.declared.ImageSegment.TheVariants as segment
-use Rattle.records.specs.declared.RecordAnswer.TheVariants.{Refused, Found}
+use Rattle.records.specs.declared.Header.{Header}
+use Rattle.refusals.specs.declared.Refusal.{Refusal}
 
 -- sixteen octets: a type and a length, and a header length and data field bits that each fill one octet
 abbrev opening : ℕ → ℕ → ℕ → ℕ → List ℕ
@@ -39,47 +36,41 @@ unfolding header_says records records_from record_at is_cut after records_say se
 accepted-picture = refl
 
 -- what the reader gives of the second
-pub picture-read : ◌≡◌ {A = HeaderAnswer} (read_header picture)
+pub picture-read : ◌≡◌ {A = Result Header Refusal} (read_header picture)
+    (Ok
     (record {
-      read = Read
-          (record {
-            primary = record { filetype = 0; length = 32; bits = 12 };
-            image = image.There (record { bits = 8; columns = 515; lines = 4; compression = 0 });
-            navigation = navigation.Absent;
-            time = time.Absent;
-            segment = segment.There (record { number = 1; total = 2; line = 5 });
-          });
-      name = replicate 32 0;
-    })
-unfolding header_says records records_from record_at is_cut after records_say seen_in rounded_up length_of number_at number place_of primary_of image_at segment_at image_of navigation_of name_of time_of segment_of fields_of read_header
+      primary = record { filetype = 0; length = 32; bits = 12 };
+      image = Some (record { bits = 8; columns = 515; lines = 4; compression = 0 });
+      navigation = None;
+      time = None;
+      segment = Some (record { number = 1; total = 2; line = 5 });
+    }))
+unfolding header_says records records_from record_at is_cut after records_say seen_in rounded_up length_of number_at number place_of primary_of image_at segment_at image_of navigation_of time_of segment_of fields_of read_header
 picture-read = refl
 
-pub picture-last : read_record picture 2 ≡ Found (record { kind = 128; place = 25; length = 7 })
+pub picture-last : read_record picture 2 ≡ Ok (record { kind = 128; place = 25; length = 7 })
 unfolding header_says records records_from record_at is_cut after records_say seen_in rounded_up length_of number_at number nth read_record
 picture-last = refl
 
-pub picture-none : read_record picture 3 ≡ Refused 27
+pub picture-none : read_record picture 3 ≡ refuse 27
 unfolding header_says records records_from record_at is_cut after records_say seen_in rounded_up length_of number_at number nth read_record
 picture-none = refl
 
 -- a text file that is all header, with nothing but its primary record
-pub alone-read : ◌≡◌ {A = HeaderAnswer} (read_header (0 ∷ 0 ∷ 16 ∷ 2 ∷ 0 ∷ 0 ∷ 0 ∷ 16 ∷ replicate 8 0))
+pub alone-read : ◌≡◌ {A = Result Header Refusal} (read_header (0 ∷ 0 ∷ 16 ∷ 2 ∷ 0 ∷ 0 ∷ 0 ∷ 16 ∷ replicate 8 0))
+    (Ok
     (record {
-      read = Read
-          (record {
-            primary = record { filetype = 2; length = 16; bits = 0 };
-            image = image.Absent;
-            navigation = navigation.Absent;
-            time = time.Absent;
-            segment = segment.Absent;
-          });
-      name = replicate 32 0;
-    })
-unfolding header_says records records_from record_at is_cut after records_say seen_in rounded_up length_of number_at number place_of primary_of image_at segment_at image_of navigation_of name_of time_of segment_of fields_of read_header
+      primary = record { filetype = 2; length = 16; bits = 0 };
+      image = None;
+      navigation = None;
+      time = None;
+      segment = None;
+    }))
+unfolding header_says records records_from record_at is_cut after records_say seen_in rounded_up length_of number_at number place_of primary_of image_at segment_at image_of navigation_of time_of segment_of fields_of read_header
 alone-read = refl
 
 -- a file of one octet
-pub one-octet : (x : ℕ) → read_header (x ∷ []) ≡ refused_header 20
+pub one-octet : (x : ℕ) → read_header (x ∷ []) ≡ refuse 20
 unfolding header_says read_header
 one-octet x = refl
 
@@ -117,6 +108,6 @@ cases =
     ∷ (opening 0 16 16 0 ++ (0 ∷ []) gives 26)
     ∷ []
 
-pub answered-right : each (λ (c : Case). eqb (header_number (read_header c.file).read) c.answer) cases ≡ true
-unfolding header_says records records_from record_at is_cut after records_say seen_in rounded_up length_of number_at number place_of primary_of image_at segment_at image_of navigation_of name_of time_of segment_of fields_of read_header each
+pub answered-right : each (λ (c : Case). eqb (header_number (read_header c.file)) c.answer) cases ≡ true
+unfolding header_says records records_from record_at is_cut after records_say seen_in rounded_up length_of number_at number place_of primary_of image_at segment_at image_of navigation_of time_of segment_of fields_of read_header each
 answered-right = refl

@@ -1,4 +1,5 @@
 -- A record sought by its type and by its number, at the record where the walk stands. Assumes nothing.
+use Rattle.std.specs.Prelude.{Some, Ok}
 use mathlib.Core.Path.{◌≡◌, refl}
 use mathlib.Core.List.{List, ◌∷◌}
 use Prim.Native.Nat.{ℕ, zero, suc, ◌-◌}
@@ -6,11 +7,9 @@ use native.Mathlib.Omega.{arith}
 use borrow.Author.Tests.{eq-eqb, ne_eqb}
 use Rattle.records.specs.Records.{nth, place_of}
 use Rattle.records.specs.declared.Record.{Record}
-use Rattle.records.specs.declared.RecordAnswer.TheVariants.{Found}
-use Rattle.records.specs.declared.Stands.TheVariants.{At}
 
 module _ (r : Record) (rs : List Record) where
-  pub place_here : (kind : ℕ) → r.kind ≡ kind → place_of kind (r ∷ rs) ≡ At r.place
+  pub place_here : (kind : ℕ) → r.kind ≡ kind → place_of kind (r ∷ rs) ≡ Some r.place
   unfolding place_of
   place_here kind h = rw (eq-eqb r.kind kind h)
 
@@ -18,7 +17,7 @@ module _ (r : Record) (rs : List Record) where
   unfolding place_of
   place-later kind h = rw (ne_eqb r.kind kind h)
 
-  pub nth_here : (n : ℕ) → n ≡ 0 → nth (r ∷ rs) n ≡ Found r
+  pub nth_here : (n : ℕ) → n ≡ 0 → nth (r ∷ rs) n ≡ Ok r
   unfolding nth
   nth_here zero h = refl
   nth_here (suc n) h = absurd (omega arith)

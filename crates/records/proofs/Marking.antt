@@ -1,4 +1,7 @@
 -- "23, 24, 25 are tried record by record": the walk that judges, with a mark for each type seen. Assumes nothing.
+use Rattle.refusals.specs.declared.Refusal.{Refusal}
+use Rattle.refusals.specs.Refusals.{refuse, verdict}
+use Rattle.std.specs.Prelude.{Result, Ok, ⊤}
 use mathlib.Core.Path.{◌≡◌, refl, sym, ◌∙◌}
 use mathlib.Core.Bool.{Bool, true, false, ◌||◌}
 use mathlib.Core.List.{List, [], ◌∷◌}
@@ -13,8 +16,6 @@ use Rattle.octets.proofs.Reasons.{none-decided, decided-none, decided-append, de
 use Rattle.records.specs.Table.{FixedType}
 use Rattle.records.specs.Records.{record_at, after, records, record_says, seen_in, records_say}
 use Rattle.records.specs.declared.Record.{Record}
-use Rattle.records.specs.declared.Judged.{Judged}
-use Rattle.records.specs.declared.Judged.TheVariants.{Good, Refused}
 use Rattle.records.proofs.Passing.{never}
 use Rattle.records.proofs.Walk.{Going, begin, found, turn, ends}
 
@@ -46,8 +47,8 @@ marked_more {seen} {before} m r h =
 
 -- by whichever table of fixed types
 module _ (types : List FixedType) where
-  abbrev pub judged_of : ℕ → List Record → List Record → Judged
-  judged_of end before rs = decided (records_say types end before rs) Good Refused
+  abbrev pub judged_of : ℕ → List Record → List Record → Result ⊤ Refusal
+  judged_of end before rs = verdict (records_say types end before rs)
 
   -- what the records from a place on are judged, with the marks of those before, is what the header is judged
   pub record Judging (header : List ℕ) (seen : List Bool) (at : ℕ) : Type 0 where
@@ -60,36 +61,36 @@ module _ (types : List FixedType) where
       record { before = []; marked = none-marked; going = begin header (judged_of (length header) []) }
 
   module _ {header : List ℕ} {seen : List Bool} {at : ℕ} (g : Judging header seen at) where
-    pub judging-ends : length header ≤ at → judged_of (length header) [] (records header) ≡ Good
+    pub judging-ends : length header ≤ at → judged_of (length header) [] (records header) ≡ Ok tt
     unfolding records_say
     judging-ends h = ends g.going h
 
-    module _ {r : Record} {j : Judged} (here : r ≡ record_at header at) (h : at < length header) (low : r.kind < 256)
-        (told : j ≡ decided (record_says types (length header) (get_or seen r.kind false) r) Good Refused) where
+    module _ {r : Record} {j : Result ⊤ Refusal} (here : r ≡ record_at header at) (h : at < length header) (low : r.kind < 256)
+        (told : j ≡ verdict (record_says types (length header) (get_or seen r.kind false) r)) where
       -- what is said of this record, and what is judged of those behind it
       abbrev here-says : List Reason
       here-says = record_says types (length header) (seen_in g.before r.kind) r
 
-      abbrev later : List Record → Judged
+      abbrev later : List Record → Result ⊤ Refusal
       later rs = judged_of (length header) (r ∷ g.before) rs
 
-      own : j ≡ decided here-says Good Refused
+      own : j ≡ verdict here-says
       own = rw (sym (g.marked.marks r.kind low)) told
 
-      split : (rs : List Record) → judged_of (length header) g.before (r ∷ rs) ≡ decided here-says (later rs) Refused
+      split : (rs : List Record) → judged_of (length header) g.before (r ∷ rs) ≡ decided here-says (later rs) refuse
       unfolding records_say
-      split rs = decided-append Good Refused here-says (records_say types (length header) (r ∷ g.before) rs)
+      split rs = decided-append (Ok tt) refuse here-says (records_say types (length header) (r ∷ g.before) rs)
 
-      pub judging-refused : (n : ℕ) → j ≡ Refused n → judged_of (length header) [] (records header) ≡ Refused n
+      pub judging-refused : (n : ℕ) → j ≡ refuse n → judged_of (length header) [] (records header) ≡ refuse n
       judging-refused n e =
-          found g.going here h (Refused n)
-          (λ rs. split rs ∙ decided-kept here-says (later rs) Refused (λ q. never n (sym q)) (sym own ∙ e))
+          found g.going here h (refuse n)
+          (λ rs. split rs ∙ decided-kept here-says (later rs) refuse (λ q. never n (sym q)) (sym own ∙ e))
 
-      pub judging-on : (at' : ℕ) → j ≡ Good → at' ≡ after (length header) r → r.place < at' → Judging header (set seen r.kind true) at'
+      pub judging-on : (at' : ℕ) → j ≡ Ok tt → at' ≡ after (length header) r → r.place < at' → Judging header (set seen r.kind true) at'
       judging-on at' e next on =
           record {
             before = r ∷ g.before;
             marked = marked_more g.marked r low;
             going = turn g.going here h later at' next on
-                (λ rs. split rs ∙ none-decided (later rs) Refused here-says (decided-none here-says never (sym own ∙ e)));
+                (λ rs. split rs ∙ none-decided (later rs) refuse here-says (decided-none here-says never (sym own ∙ e)));
           }

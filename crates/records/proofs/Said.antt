@@ -1,4 +1,7 @@
 -- What the reader answers says what the paper gives: the same number, and the same values. Assumes nothing.
+use Rattle.refusals.specs.declared.Refusal.{Refusal}
+use Rattle.refusals.specs.Refusals.{refuse}
+use Rattle.std.specs.Prelude.{option_map, Option, Some, None, Result, Ok}
 use mathlib.Core.Path.{◌≡◌, refl, sym, ap, ◌∙◌}
 use mathlib.Core.List.{List, [], ◌∷◌, map}
 use Prim.Native.Nat.{ℕ, zero, suc, ◌≤◌, ◌<◌}
@@ -6,7 +9,7 @@ use native.Mathlib.Nat.{le_of_suc-le-suc}
 use native.Mathlib.Omega.{arith}
 use borrow.Author.Tests.{leb-true, leb-false, eqb-true}
 use lib.Dec.{leb, eqb}
-use lib.ListN.{length, get_or, replicate}
+use lib.ListN.{length, get_or}
 use lib.Seq.{length-take-le}
 use Rattle.octets.specs.Number.{number_at}
 use Rattle.octets.specs.Reasons.{decided}
@@ -18,23 +21,17 @@ use Rattle.octets.proofs.Reasons.{decided-cases, none-decided, first-decided, de
 use Rattle.records.specs.Table as table
 use Rattle.records.specs.Table.{header_length, primary, image_structure, time_stamp, segment, fixed_types}
 use Rattle.records.specs.Records.{field_of, header_of, record_at, records, header_says, nth, place_of}
-use Rattle.records.specs.Reader.{primary_of, image_at, signed_of, navigation_at, name_at, time_at, segment_at, if_there, image_of, navigation_of, name_of, time_of, segment_of, fields_of, read_header, read_record}
+use Rattle.records.specs.Reader.{primary_of, image_at, navigation_at, name_at, time_at, segment_at, if_there, image_of, navigation_of, time_of, segment_of, fields_of, read_header, read_record}
 use Rattle.records.specs.Answers.{Row, Said, says, refused, primary_said, image_said, navigation_said, time_said, segment_said, header_said, found_said, record_said, row_of, value_of, header_gives, record_gives}
-use Rattle.records.specs.Answers.Value.{signed, octets}
 use Rattle.records.specs.Answers.Row.{there, absent}
 use Rattle.records.specs.declared.Record.{Record}
-use Rattle.records.specs.declared.Stands.{Stands}
-use Rattle.records.specs.declared.Stands.TheVariants.{At, Nowhere}
-use Rattle.records.specs.declared.HeaderAnswer.{HeaderAnswer}
-use Rattle.records.specs.declared.ImageNavigation.TheVariants as navigation
-use Rattle.records.specs.declared.RecordAnswer.{RecordAnswer}
-use Rattle.records.specs.declared.RecordAnswer.TheVariants as answer
+use Rattle.records.specs.declared.Header.{Header}
 use Rattle.records.proofs.Walk.{begin, found}
 use Rattle.records.proofs.Finding.{place_here}
 use Rattle.records.proofs.Passing.{Whole, accepts}
 
 -- the primary record is the first of its type, at place 0
-primary-first : (file : List ℕ) → Whole file → place_of 0 (records (header_of file)) ≡ At 0
+primary-first : (file : List ℕ) → Whole file → place_of 0 (records (header_of file)) ≡ Some 0
 unfolding record_at
 primary-first file w =
     let header = header_of file in
@@ -42,18 +39,18 @@ primary-first file w =
     let kind : number_at header 0 1 ≡ 0 =
     number_at-part file 0 end 0 1 (omega (arith, w.least))
     ∙ eqb-true (number_at file 0 1) 0 (and_left (eqb (number_at file 0 1) 0) (eqb (number_at file 1 2) 16) w.starts) in
-    found (begin header (place_of 0)) refl (omega (arith, length-take-le end file w.within, w.least)) (At 0)
+    found (begin header (place_of 0)) refl (omega (arith, length-take-le end file w.within, w.least)) (Some 0)
     (λ rs. place_here (record_at header 0) rs 0 kind)
 
 -- what is made of a record that is there, or of its absence
-row : {A : Type 0} (f : A → Row) {g : ℕ → A} {none : A} {h : ℕ → Row} → ((p : ℕ) → f (g p) ≡ h p) → f none ≡ absent
-    → (s : Stands) → f (if_there g none s) ≡ if_there h absent s
-row f here nowhere (At p) = here p
-row f here nowhere Nowhere = nowhere
+row : {A : Type 0} (f : Option A → Row) {g : ℕ → A} {h : ℕ → Row} → ((p : ℕ) → f (Some (g p)) ≡ h p) → f None ≡ absent
+    → (s : Option ℕ) → f (option_map g s) ≡ if_there h absent s
+row f here nowhere (Some p) = here p
+row f here nowhere None = nowhere
 
 -- each fixed type says its row of the table
 module _ (xs : List ℕ) where
-  primary-row : place_of 0 (records xs) ≡ At 0 → primary_said (primary_of xs) ≡ row_of xs primary
+  primary-row : place_of 0 (records xs) ≡ Some 0 → primary_said (primary_of xs) ≡ row_of xs primary
   unfolding primary_of
   primary-row e = sym (ap (if_there (λ p. there (map (value_of xs p) primary.fields)) absent) e)
 
@@ -61,22 +58,9 @@ module _ (xs : List ℕ) where
   unfolding image_of image_at
   image-row = row image_said (λ p. refl) refl (place_of 1 (records xs))
 
-  -- its name stands beside it
-  navigation-at : (s : Stands)
-      → navigation_said (if_there (name_at xs) (replicate 32 0) s) (if_there (λ p. navigation.There (navigation_at xs p)) navigation.Absent s)
-      ≡ if_there (λ p. there (map (value_of xs p) (table.navigation).fields)) absent s
-  unfolding name_at navigation_at
-  navigation-at (At p) =
-      let cfac : (navigation_at xs p).cfac ≡ signed_of xs p table.CFAC = refl in
-      let lfac : (navigation_at xs p).lfac ≡ signed_of xs p table.LFAC = refl in
-      let coff : (navigation_at xs p).coff ≡ signed_of xs p table.COFF = refl in
-      let loff : (navigation_at xs p).loff ≡ signed_of xs p table.LOFF = refl in
-      λ i. there (octets (name_at xs p) ∷ signed (cfac i) ∷ signed (lfac i) ∷ signed (coff i) ∷ signed (loff i) ∷ [])
-  navigation-at Nowhere = refl
-
-  navigation-row : navigation_said (name_of xs) (navigation_of xs) ≡ row_of xs table.navigation
-  unfolding name_of navigation_of
-  navigation-row = navigation-at (place_of 2 (records xs))
+  navigation-row : navigation_said (navigation_of xs) ≡ row_of xs table.navigation
+  unfolding navigation_of navigation_at name_at
+  navigation-row = row navigation_said (λ p. refl) refl (place_of 2 (records xs))
 
   time-row : time_said (time_of xs) ≡ row_of xs time_stamp
   unfolding time_of time_at
@@ -86,7 +70,7 @@ module _ (xs : List ℕ) where
   unfolding segment_of segment_at
   segment-row = row segment_said (λ p. refl) refl (place_of 128 (records xs))
 
-fields-said : (file : List ℕ) → Whole file → header_said (fields_of (header_of file)) ≡ says 0 (map (row_of (header_of file)) fixed_types)
+fields-said : (file : List ℕ) → Whole file → header_said (Ok (fields_of (header_of file))) ≡ says 0 (map (row_of (header_of file)) fixed_types)
 unfolding header_said fields_of
 fields-said file w =
     let xs = header_of file in
@@ -96,12 +80,12 @@ pub header-said : (file : List ℕ) → header_said (read_header file) ≡ heade
 unfolding read_header header_gives header_said
 header-said file =
     let given = says 0 (map (row_of (header_of file)) fixed_types) in
-    decided-cases (λ (r : HeaderAnswer). header_said r ≡ decided (header_says fixed_types file) given refused) (header_says fixed_types file)
+    decided-cases (λ (r : Result Header Refusal). header_said r ≡ decided (header_says fixed_types file) given refused) (header_says fixed_types file)
     (λ none. fields-said file (accepts fixed_types file none).head ∙ sym (none-decided given refused (header_says fixed_types file) none))
     (λ n first. sym (first-decided given refused first))
 
 -- what a caller is promised of an answer: all of it, and what it says
-pub header-told : (file : List ℕ) {r : HeaderAnswer} → r ≡ read_header file → (r ≡ read_header file) × (header_said r ≡ header_gives file)
+pub header-told : (file : List ℕ) {r : Result Header Refusal} → r ≡ read_header file → (r ≡ read_header file) × (header_said r ≡ header_gives file)
 header-told file e = (e, ap header_said e ∙ header-said file)
 
 -- record n, or 27 where there are no more than n
@@ -126,10 +110,10 @@ record-said file n =
     let asked : record_said (nth rs n) ≡ decided ((27 when leb (length rs) n) ∷ []) given refused =
     if-cases (λ (x : Said). record_said (nth rs n) ≡ x) (leb (length rs) n)
     (λ e. nth_beyond rs n (leb-true (length rs) n e)) (λ e. nth-within rs n other (leb-false (length rs) n e)) in
-    decided-map record_said (header_says fixed_types file) (nth rs n) answer.Refused
+    decided-map record_said (header_says fixed_types file) (nth rs n) refuse
     ∙ ap (λ (x : Said). decided (header_says fixed_types file) x refused) asked
     ∙ sym (decided-append given refused (header_says fixed_types file) ((27 when leb (length rs) n) ∷ []))
 
-pub record-told : (file : List ℕ) (n : ℕ) {r : RecordAnswer} → r ≡ read_record file n
+pub record-told : (file : List ℕ) (n : ℕ) {r : Result Record Refusal} → r ≡ read_record file n
     → (r ≡ read_record file n) × (record_said r ≡ record_gives file n)
 record-told file n e = (e, ap record_said e ∙ record-said file n)

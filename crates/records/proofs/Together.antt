@@ -1,6 +1,8 @@
 -- Theorems about whole headers: what the records of an accepted one have together, that nothing of the data field enters, which numbers are
 -- given, and that there are headers that are accepted. Assumes nothing.
-use Rattle.std.specs.Prelude.{if◌then◌else◌}
+use Rattle.refusals.specs.declared.Refusal.{Refusal}
+use Rattle.refusals.specs.Refusals.{refuse}
+use Rattle.std.specs.Prelude.{if◌then◌else◌, Some, Result, Ok}
 use mathlib.Core.Path.{◌≡◌, refl, sym, ap, ap₂, subst, ◌∙◌}
 use mathlib.Core.Bool.{Bool, true, false, ◌&&◌, or-true, true≢false, false≢true}
 use mathlib.Core.Logic.{inl, inr, ◌↔◌}
@@ -15,17 +17,14 @@ use Rattle.octets.specs.Reasons.{Reason, decided}
 use Rattle.octets.proofs.Lists.{if-cases}
 use Rattle.octets.proofs.Numbers.{number_at-part}
 use Rattle.octets.proofs.Tests.{and_right}
-use Rattle.octets.proofs.Reasons.{None, decided-cases, decided-none, none-decided, first-decided, between-append, first-between, Between}
+use Rattle.octets.proofs.Reasons.{NoneApplies, decided-cases, decided-none, none-decided, first-decided, between-append, first-between, Between}
 use Rattle.records.specs.Table.{FixedType, header_length, data_bits, fixed_types, length_of}
 use Rattle.records.specs.Records.{field_of, header_of, record_at, after, records_from, records, record_says, seen_in, records_say, record_by_record, size_says, header_says, nth}
-use Rattle.records.specs.Reader.{fields_of, refused_header, read_header, read_record, header_number, record_number}
+use Rattle.records.specs.Reader.{fields_of, read_header, read_record, header_number, record_number}
 use Rattle.records.specs.Together.{Accepted, Cover, holds_octet, how_many, Together, HeaderAlone, ZeroOr, filled_types}
 use Rattle.records.specs.Together.Cover.{done, next}
 use Rattle.records.specs.declared.Record.{Record}
-use Rattle.records.specs.declared.TypeLength.TheVariants.{Fixed}
-use Rattle.records.specs.declared.HeaderAnswer.{HeaderAnswer}
-use Rattle.records.specs.declared.RecordAnswer.{RecordAnswer}
-use Rattle.records.specs.declared.RecordAnswer.TheVariants as answer
+use Rattle.records.specs.declared.Header.{Header}
 use Rattle.records.proofs.Cuts.{uncut-within, after-uncut}
 use Rattle.records.proofs.Passing.{Passed, Accepts, accepts, passes, length-fixed, unseen}
 use Rattle.records.proofs.Answering.{header-length}
@@ -60,13 +59,13 @@ module _ (types : List FixedType) where
   -- each record begins where the one before it ends, and the last ends at the header's end
   module _ (header : List ℕ) where
     covered : (k : ℕ) (before : List Record) (at : ℕ) → at ≤ length header → length header ≤ at + k
-        → None (records_say types (length header) before (records_from k header at)) → Cover (length header) at (records_from k header at)
+        → NoneApplies (records_say types (length header) before (records_from k header at)) → Cover (length header) at (records_from k header at)
     unfolding records_from record_at
     covered zero before at within enough none =
         let all : length header ≡ at = omega arith in
         subst (λ (n : ℕ). Cover (length header) n []) all done
     covered (suc k) before at within enough none =
-        if-cases (λ (rs : List Record). None (records_say types (length header) before rs) → Cover (length header) at rs) (ltb at (length header))
+        if-cases (λ (rs : List Record). NoneApplies (records_say types (length header) before rs) → Cover (length header) at rs) (ltb at (length header))
         (λ more some.
         let r = record_at header at in
         let on = after (length header) r in
@@ -80,13 +79,13 @@ module _ (types : List FixedType) where
         subst (λ (n : ℕ). Cover (length header) n []) all done)
         none
 
-  module _ (end kind : ℕ) {n : ℕ} (fixed : length_of types kind ≡ Fixed n) where
+  module _ (end kind : ℕ) {n : ℕ} (fixed : length_of types kind ≡ Some n) where
     -- a record of the fixed type
-    same_kind : (r : Record) → eqb r.kind kind ≡ true → length_of types r.kind ≡ Fixed n
+    same_kind : (r : Record) → eqb r.kind kind ≡ true → length_of types r.kind ≡ Some n
     same_kind r is = ap (length_of types) (eqb-true r.kind kind is) ∙ fixed
 
     -- where one stood before none follows, and at most one is there
-    once-from : (before rs : List Record) → None (records_say types end before rs)
+    once-from : (before rs : List Record) → NoneApplies (records_say types end before rs)
         → (seen_in before kind ≡ true → how_many (λ (r : Record). eqb r.kind kind) rs ≡ 0)
         × (how_many (λ (r : Record). eqb r.kind kind) rs ≤ 1)
     unfolding how_many seen_in
@@ -104,7 +103,7 @@ module _ (types : List FixedType) where
         let none_here : 0 + others ≡ others = omega arith in
         (λ seen. none_here ∙ later (rw (seen, or-true)), omega arith))
 
-    right-from : (before rs : List Record) → None (records_say types end before rs)
+    right-from : (before rs : List Record) → NoneApplies (records_say types end before rs)
         → how_many (λ (r : Record). eqb r.kind kind && eqb r.length n) rs ≡ how_many (λ (r : Record). eqb r.kind kind) rs
     unfolding how_many
     right-from before [] none = refl
@@ -190,16 +189,16 @@ unfolding read_header read_record
 header-alone file e =
     let a = accepted fixed_types file e in
     record {
-      fields = λ other long same. ap₂ (λ (rs : List Reason) (h : List ℕ). decided rs (fields_of h) refused_header)
+      fields = λ other long same. ap₂ (λ (rs : List Reason) (h : List ℕ). decided rs (Ok (fields_of h)) refuse)
           (says_same fixed_types file a other long same) (header-same fixed_types file a other long same);
-      asked = λ other n long same. ap₂ (λ (rs : List Reason) (h : List ℕ). decided rs (nth (records h) n) answer.Refused)
+      asked = λ other n long same. ap₂ (λ (rs : List Reason) (h : List ℕ). decided rs (nth (records h) n) refuse)
           (says_same fixed_types file a other long same) (header-same fixed_types file a other long same);
     }
 
-pub header-answers : (file : List ℕ) → ZeroOr 20 26 (header_number (read_header file).read)
+pub header-answers : (file : List ℕ) → ZeroOr 20 26 (header_number (read_header file))
 unfolding read_header fields_of
 header-answers file =
-    decided-cases (λ (r : HeaderAnswer). ZeroOr 20 26 (header_number r.read)) (header_says fixed_types file) (λ none. inl refl)
+    decided-cases (λ (r : Result Header Refusal). ZeroOr 20 26 (header_number r)) (header_says fixed_types file) (λ none. inl refl)
     (λ n first. inr (first-between 20 26 first (header-between fixed_types 26 (omega arith) file)))
 
 nth-answers : (rs : List Record) (n : ℕ) → ZeroOr 20 27 (record_number (nth rs n))
@@ -211,15 +210,15 @@ nth-answers (r ∷ rs) (suc n) = nth-answers rs n
 pub record-answers : (file : List ℕ) (n : ℕ) → ZeroOr 20 27 (record_number (read_record file n))
 unfolding read_record
 record-answers file n =
-    decided-cases (λ (r : RecordAnswer). ZeroOr 20 27 (record_number r)) (header_says fixed_types file)
+    decided-cases (λ (r : Result Record Refusal). ZeroOr 20 27 (record_number r)) (header_says fixed_types file)
     (λ none. nth-answers (records (header_of file)) n)
     (λ k first. inr (first-between 20 27 first (header-between fixed_types 27 (omega arith) file)))
 
 -- a header's fields are given exactly if nothing is refused of it
-pub given-exactly : (file : List ℕ) → (header_number (read_header file).read ≡ 0) ↔ Accepted fixed_types file
+pub given-exactly : (file : List ℕ) → (header_number (read_header file) ≡ 0) ↔ Accepted fixed_types file
 unfolding read_header fields_of
 given-exactly file =
-    decided-cases (λ (r : HeaderAnswer). (header_number r.read ≡ 0) ↔ Accepted fixed_types file) (header_says fixed_types file)
+    decided-cases (λ (r : Result Header Refusal). (header_number r ≡ 0) ↔ Accepted fixed_types file) (header_says fixed_types file)
     (λ none. (λ e. none-decided true (λ n. false) (header_says fixed_types file) none, λ e. refl))
     (λ n first. (
       λ e. absurd (omega (arith, (first-between 20 26 first (header-between fixed_types 26 (omega arith) file)).0)),

@@ -1,6 +1,12 @@
 -- The two answers in the paper's terms: its number and the values that go with it, for each case of each enum; and what the paper gives for a
 -- file, from the table of fixed types and the list of the header's records alone. Assumes nothing.
-use Rattle.std.specs.Prelude.{List, [], ◌∷◌, ◌++◌, map, ℕ, ◌+◌, leb, ℤ, length, get_or}
+use Rattle.records.specs.declared.Time.{Time}
+use Rattle.records.specs.declared.Segment.{Segment}
+use Rattle.records.specs.declared.Navigation.{Navigation}
+use Rattle.records.specs.declared.Image.{Image}
+use Rattle.records.specs.declared.Header.{Header}
+use Rattle.refusals.specs.declared.Refusal.{Refusal}
+use Rattle.std.specs.Prelude.{List, [], ◌∷◌, ◌++◌, map, ℕ, ◌+◌, leb, ℤ, length, get_or, Option, Some, None, Result, Ok, Err}
 use Rattle.octets.specs.Number.{part, signed as signed_of, number_at}
 use Rattle.octets.specs.Reasons.{decided}
 use Rattle.octets.specs.Reasons.Reason.{◌when◌}
@@ -10,19 +16,6 @@ use Rattle.records.specs.Records.{header_of, record_at, records, header_says, pl
 use Rattle.records.specs.Reader.{if_there, header_number, record_number}
 use Rattle.records.specs.declared.Record.{Record}
 use Rattle.records.specs.declared.Primary.{Primary}
-use Rattle.records.specs.declared.ImageStructure.{ImageStructure}
-use Rattle.records.specs.declared.ImageStructure.TheVariants as image
-use Rattle.records.specs.declared.ImageNavigation.{ImageNavigation}
-use Rattle.records.specs.declared.ImageNavigation.TheVariants as navigation
-use Rattle.records.specs.declared.TimeStamp.{TimeStamp}
-use Rattle.records.specs.declared.TimeStamp.TheVariants as time
-use Rattle.records.specs.declared.ImageSegment.{ImageSegment}
-use Rattle.records.specs.declared.ImageSegment.TheVariants as segment
-use Rattle.records.specs.declared.HeaderRead.{HeaderRead}
-use Rattle.records.specs.declared.HeaderRead.TheVariants as header
-use Rattle.records.specs.declared.HeaderAnswer.{HeaderAnswer}
-use Rattle.records.specs.declared.RecordAnswer.{RecordAnswer}
-use Rattle.records.specs.declared.RecordAnswer.TheVariants as answer
 
 pub data Value : Type 0 where
   number : ℕ → Value
@@ -53,44 +46,44 @@ abbrev pub primary_said : Primary → Row
 primary_said x = there (number x.filetype ∷ number x.length ∷ number x.bits ∷ [])
 
 -- "bits a pixel 1, columns 2, lines 2, compression 1"
-abbrev pub image_said : ImageStructure → Row
-image_said (image.There x) = there (number x.bits ∷ number x.columns ∷ number x.lines ∷ number x.compression ∷ [])
-image_said image.Absent = absent
+abbrev pub image_said : Option Image → Row
+image_said (Some x) = there (number x.bits ∷ number x.columns ∷ number x.lines ∷ number x.compression ∷ [])
+image_said None = absent
 
 -- "name 32, then CFAC, LFAC, COFF, LOFF, signed, 4 each"
-abbrev pub navigation_said : List ℕ → ImageNavigation → Row
-navigation_said name (navigation.There x) =
-    there (octets name ∷ signed x.cfac ∷ signed x.lfac ∷ signed x.coff ∷ signed x.loff ∷ [])
-navigation_said name navigation.Absent = absent
+abbrev pub navigation_said : Option Navigation → Row
+navigation_said (Some x) =
+    there (octets x.name ∷ signed x.cfac ∷ signed x.lfac ∷ signed x.coff ∷ signed x.loff ∷ [])
+navigation_said None = absent
 
 -- "P-field 1, days 2, milliseconds 4"
-abbrev pub time_said : TimeStamp → Row
-time_said (time.There x) = there (number x.pfield ∷ number x.days ∷ number x.milliseconds ∷ [])
-time_said time.Absent = absent
+abbrev pub time_said : Option Time → Row
+time_said (Some x) = there (number x.pfield ∷ number x.days ∷ number x.milliseconds ∷ [])
+time_said None = absent
 
 -- "number 1, total 1, line 2"
-abbrev pub segment_said : ImageSegment → Row
-segment_said (segment.There x) = there (number x.number ∷ number x.total ∷ number x.line ∷ [])
-segment_said segment.Absent = absent
+abbrev pub segment_said : Option Segment → Row
+segment_said (Some x) = there (number x.number ∷ number x.total ∷ number x.line ∷ [])
+segment_said None = absent
 
 -- types 0, 1, 2, 5 and 128
-abbrev pub header_rows : List ℕ → HeaderRead → List Row
-header_rows name (header.Refused n) = []
-header_rows name (header.Read h) =
-    primary_said h.primary ∷ image_said h.image ∷ navigation_said name h.navigation ∷ time_said h.time ∷ segment_said h.segment ∷ []
+abbrev pub header_rows : Result Header Refusal → List Row
+header_rows (Err n) = []
+header_rows (Ok h) =
+    primary_said h.primary ∷ image_said h.image ∷ navigation_said h.navigation ∷ time_said h.time ∷ segment_said h.segment ∷ []
 
-unfoldable pub header_said : HeaderAnswer → Said
-header_said a = says (header_number a.read) (header_rows a.name a.read)
+unfoldable pub header_said : Result Header Refusal → Said
+header_said a = says (header_number a) (header_rows a)
 
 -- "its type, place and length"
 abbrev pub found_said : Record → Row
 found_said r = there (number r.kind ∷ number r.place ∷ number r.length ∷ [])
 
-abbrev pub record_rows : RecordAnswer → List Row
-record_rows (answer.Refused n) = []
-record_rows (answer.Found r) = found_said r ∷ []
+abbrev pub record_rows : Result Record Refusal → List Row
+record_rows (Err n) = []
+record_rows (Ok r) = found_said r ∷ []
 
-unfoldable pub record_said : RecordAnswer → Said
+unfoldable pub record_said : Result Record Refusal → Said
 record_said a = says (record_number a) (record_rows a)
 
 -- What the paper gives for a file.

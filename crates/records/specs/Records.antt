@@ -1,16 +1,12 @@
 -- The records of a header, in order, and what is refused of them ("Header records", refusals 20 to 26). Assumes nothing.
-use Rattle.std.specs.Prelude.{Bool, true, false, not, ◌&&◌, ◌||◌, List, [], ◌∷◌, ◌++◌, ℕ, zero, suc, ◌+◌, ltb, eqb, length, take, if◌then◌else◌}
+use Rattle.refusals.specs.declared.Refusal.{Refusal}
+use Rattle.refusals.specs.Refusals.{refuse}
+use Rattle.std.specs.Prelude.{Bool, true, false, not, ◌&&◌, ◌||◌, List, [], ◌∷◌, ◌++◌, ℕ, zero, suc, ◌+◌, ltb, eqb, length, take, if◌then◌else◌, Option, Some, None, Result, Ok}
 use Rattle.octets.specs.Number.{number_at, rounded_up}
 use Rattle.octets.specs.Reasons.{Reason}
 use Rattle.octets.specs.Reasons.Reason.{◌when◌}
 use Rattle.records.specs.Table.{Field, FixedType, header_length, data_bits, length_of}
 use Rattle.records.specs.declared.Record.{Record}
-use Rattle.records.specs.declared.TypeLength.{TypeLength}
-use Rattle.records.specs.declared.TypeLength.TheVariants.{Fixed, Free}
-use Rattle.records.specs.declared.RecordAnswer.{RecordAnswer}
-use Rattle.records.specs.declared.RecordAnswer.TheVariants as answer
-use Rattle.records.specs.declared.Stands.{Stands}
-use Rattle.records.specs.declared.Stands.TheVariants.{At, Nowhere}
 
 -- a field of the record that begins at a place
 abbrev pub field_of : List ℕ → ℕ → Field → ℕ
@@ -43,13 +39,13 @@ unfoldable pub records : List ℕ → List Record
 records header = records_from (length header) header 0
 
 -- "24 / 25: fixed length wrong / fixed type seen twice", by whichever table of fixed types the reader has
-abbrev pub wrong_length : TypeLength → ℕ → Bool
-wrong_length (Fixed n) size = not (eqb size n)
-wrong_length Free size = false
+abbrev pub wrong_length : Option ℕ → ℕ → Bool
+wrong_length (Some n) size = not (eqb size n)
+wrong_length None size = false
 
-abbrev pub is_fixed : TypeLength → Bool
-is_fixed (Fixed n) = true
-is_fixed Free = false
+abbrev pub is_fixed : Option ℕ → Bool
+is_fixed (Some n) = true
+is_fixed None = false
 
 abbrev pub type_says : List FixedType → ℕ → ℕ → Bool → List Reason
 type_says types kind size seen =
@@ -95,12 +91,12 @@ header_says types file =
     ∷ record_by_record types (header_of file) ++ size_says (length file) end (field_of file 0 data_bits)
 
 -- "asked for record n, from 0, the reader gives its type, place and length, or 27"
-unfoldable pub nth : List Record → ℕ → RecordAnswer
-nth [] n = answer.Refused 27
-nth (r ∷ rs) zero = answer.Found r
+unfoldable pub nth : List Record → ℕ → Result Record Refusal
+nth [] n = refuse 27
+nth (r ∷ rs) zero = Ok r
 nth (r ∷ rs) (suc n) = nth rs n
 
 -- the first record of a type
-unfoldable pub place_of : ℕ → List Record → Stands
-place_of kind [] = Nowhere
-place_of kind (r ∷ rs) = if eqb r.kind kind then At r.place else place_of kind rs
+unfoldable pub place_of : ℕ → List Record → Option ℕ
+place_of kind [] = None
+place_of kind (r ∷ rs) = if eqb r.kind kind then Some r.place else place_of kind rs

@@ -1,7 +1,5 @@
 -- "Header records": the record types whose length is fixed, and where their fields stand. Assumes nothing.
-use Rattle.std.specs.Prelude.{List, [], ◌∷◌, ℕ, eqb, if◌then◌else◌}
-use Rattle.records.specs.declared.TypeLength.{TypeLength}
-use Rattle.records.specs.declared.TypeLength.TheVariants.{Fixed, Free}
+use Rattle.std.specs.Prelude.{List, [], ◌∷◌, ℕ, eqb, if◌then◌else◌, Option, Some, None}
 
 -- how a field is read
 pub data Form : Type 0 where
@@ -111,6 +109,6 @@ abbrev pub fixed_types : List FixedType
 fixed_types = primary ∷ image_structure ∷ navigation ∷ time_stamp ∷ segment ∷ []
 
 -- "All other types have free length from 3."
-unfoldable pub length_of : List FixedType → ℕ → TypeLength
-length_of [] kind = Free
-length_of (t ∷ ts) kind = if eqb kind t.kind then Fixed t.size else length_of ts kind
+unfoldable pub length_of : List FixedType → ℕ → Option ℕ
+length_of [] kind = None
+length_of (t ∷ ts) kind = if eqb kind t.kind then Some t.size else length_of ts kind

@@ -1,11 +1,10 @@
 -- What the records of a header have together, where nothing is refused. Assumes nothing.
-use Rattle.std.specs.Prelude.{◌≡◌, Bool, true, false, ◌&&◌, List, [], ◌∷◌, ◌⊎◌, ℕ, ◌+◌, ◌≤◌, ◌<◌, leb, ltb, eqb, length, take, if◌then◌else◌}
+use Rattle.std.specs.Prelude.{◌≡◌, Bool, true, false, ◌&&◌, List, [], ◌∷◌, ◌⊎◌, ℕ, ◌+◌, ◌≤◌, ◌<◌, leb, ltb, eqb, length, take, if◌then◌else◌, Some}
 use Rattle.octets.specs.Reasons.{decided}
 use Rattle.records.specs.Table.{Field, FixedType, header_length, data_bits, length_of}
 use Rattle.records.specs.Records.{field_of, header_of, records, octets_for, header_says}
 use Rattle.records.specs.Reader.{read_header, read_record}
 use Rattle.records.specs.declared.Record.{Record}
-use Rattle.records.specs.declared.TypeLength.TheVariants.{Fixed}
 
 -- a file of whose header nothing is refused by a table of fixed types
 abbrev pub Accepted : List FixedType → List ℕ → Type 0
@@ -33,8 +32,8 @@ pub record Together (types : List FixedType) (file : List ℕ) : Type 0 where
   pub cover : Cover (field_of file 0 header_length) 0 (records (header_of file))
   pub one : (i : ℕ) → i < field_of file 0 header_length → how_many (holds_octet i) (records (header_of file)) ≡ 1
   -- a fixed type is there once at most, with its length
-  pub once : (kind n : ℕ) → length_of types kind ≡ Fixed n → how_many (λ r. eqb r.kind kind) (records (header_of file)) ≤ 1
-  pub right : (kind n : ℕ) → length_of types kind ≡ Fixed n
+  pub once : (kind n : ℕ) → length_of types kind ≡ Some n → how_many (λ r. eqb r.kind kind) (records (header_of file)) ≤ 1
+  pub right : (kind n : ℕ) → length_of types kind ≡ Some n
       → how_many (λ r. eqb r.kind kind && eqb r.length n) (records (header_of file)) ≡ how_many (λ r. eqb r.kind kind) (records (header_of file))
 
 -- nothing of the data field but its length enters: a file of as many octets with the same header is answered the same

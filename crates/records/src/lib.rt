@@ -53,9 +53,9 @@ impl Image {
     pub const SIZE: usize = 9;
 }
 
-// Its name stands beside it, in the answer.
 #[derive(Clone, Copy)]
 pub struct Navigation {
+    pub name: [u8; Navigation::NAME],
     pub cfac: i32,
     pub lfac: i32,
     pub coff: i32,
@@ -96,91 +96,27 @@ impl Segment {
     pub const SIZE: usize = 7;
 }
 
-#[derive(Clone, Copy)]
-pub enum ImageStructure {
-    There(Image),
-    Absent,
-}
-
-#[derive(Clone, Copy)]
-pub enum ImageNavigation {
-    There(Navigation),
-    Absent,
-}
-
-#[derive(Clone, Copy)]
-pub enum TimeStamp {
-    There(Time),
-    Absent,
-}
-
-#[derive(Clone, Copy)]
-pub enum ImageSegment {
-    There(Segment),
-    Absent,
-}
-
 // The fixed fields, or their absence.
 #[derive(Clone, Copy)]
 pub struct Header {
     pub primary: Primary,
-    pub image: ImageStructure,
-    pub navigation: ImageNavigation,
-    pub time: TimeStamp,
-    pub segment: ImageSegment,
+    pub image: Option<Image>,
+    pub navigation: Option<Navigation>,
+    pub time: Option<Time>,
+    pub segment: Option<Segment>,
 }
 
-#[derive(Clone, Copy)]
-pub enum HeaderRead {
-    Refused(u8),
-    Read(Header),
-}
-
-// What comes of a header, with the name in its navigation record: zeros where there is none.
-#[derive(Clone, Copy)]
-pub struct HeaderAnswer {
-    pub read: HeaderRead,
-    pub name: [u8; Navigation::NAME],
-}
-
-// What comes of asking for a record.
-#[derive(Clone, Copy)]
-pub enum RecordAnswer {
-    Refused(u8),
-    Found(Record),
-}
-
-// The length of the records of a type.
-#[derive(Clone, Copy)]
-pub enum TypeLength {
-    Fixed(usize),
-    Free,
-}
-
-// What a test found: a number of the paper, or nothing to refuse.
-#[derive(Clone, Copy)]
-pub enum Judged {
-    Good,
-    Refused(u8),
-}
-
-// Where the first record of a type stands.
-#[derive(Clone, Copy)]
-pub enum Stands {
-    At(usize),
-    Nowhere,
-}
-
-pub fn type_length(kind: u8) -> TypeLength
+// The length of the records of a type, if it is fixed.
+pub fn type_length(kind: u8) -> Option<usize>
     ensures { result ≡ length_of fixed_types kind }
 {
     match kind {
-        Primary::KIND => TypeLength::Fixed(Primary::SIZE),
-        Image::KIND => TypeLength::Fixed(Image::SIZE),
-        Navigation::KIND => TypeLength::Fixed(Navigation::SIZE),
-        Time::KIND => TypeLength::Fixed(Time::SIZE),
-        Segment::KIND => TypeLength::Fixed(Segment::SIZE),
-        _ => TypeLength::Free,
+        Primary::KIND => Some(Primary::SIZE),
+        Image::KIND => Some(Image::SIZE),
+        Navigation::KIND => Some(Navigation::SIZE),
+        Time::KIND => Some(Time::SIZE),
+        Segment::KIND => Some(Segment::SIZE),
+        _ => None,
     }
 }
 
@@ -193,13 +129,13 @@ pub fn record_at(header: &[u8], at: usize) -> Record
     let left = header.len() - at;
     if left < Record::LEAST {
         return Record {
-            kind: kind,
+            kind,
             place: at,
             length: octets::number(header, at + 1, left - 1) as usize,
         };
     }
     Record {
-        kind: kind,
+        kind,
         place: at,
         length: octets::u16_at(header, at + 1) as usize,
     }
@@ -211,16 +147,7 @@ pub fn is_cut(r: Record, end: usize) -> bool
     ensures { result ≡ is_cut end r }
 {
     let left = end - r.place;
-    if left < Record::LEAST {
-        return true;
-    }
-    if r.length < Record::LEAST {
-        return true;
-    }
-    if left < r.length {
-        return true;
-    }
-    false
+    left < Record::LEAST || r.length < Record::LEAST || left < r.length
 }
 
 // Where the record after it begins.

@@ -1,5 +1,7 @@
 -- The searches: which slot is free, which file is of a pair, the sum of the needs, the block at a place; and the loops for them. Assumes nothing.
-use Rattle.std.specs.Prelude.{if◌then◌else◌}
+use Rattle.std.specs.Prelude.{if◌then◌else◌, cond, Option, None, Some, position}
+use Rattle.std.specs.List.{position_from}
+use Rattle.std.proofs.lemmas.Iterator.Adapters.{position_from-zero}
 use mathlib.Core.Path.{◌≡◌, refl, sym, ap, subst, ◌∙◌}
 use mathlib.Core.Bool.{Bool, true, false, not, ◌&&◌, true≢false}
 use mathlib.Core.List.{List, [], ◌∷◌}
@@ -21,15 +23,13 @@ use Rattle.state.specs.declared.Station.{Station}
 use Rattle.state.specs.Slots.{no_file, slot_at, held, need_of, incomplete, of_pair}
 use Rattle.state.specs.Blocks.{numbers_of, needs}
 use Rattle.state.specs.Sound.{Sized, Sound}
-use Rattle.room.specs.declared.Found.{Found}
-use Rattle.room.specs.declared.Found.TheVariants.{At, Nothing}
 use Rattle.room.specs.Find.{free_from, free_slot, file_from, file_of}
 use Rattle.room.proofs.Given.{ahead, ahead_none, ahead-here, ahead_past}
 
 -- the number, counted from k, of the first slot that passes a test: both searches are this one
-unfoldable pub first_from : (Slot → Bool) → ℕ → List Slot → Found
-first_from f k [] = Nothing
-first_from f k (x ∷ xs) = if f x then At k else first_from f (suc k) xs
+unfoldable pub first_from : (Slot → Bool) → ℕ → List Slot → Option ℕ
+first_from f k [] = None
+first_from f k (x ∷ xs) = if f x then Some k else first_from f (suc k) xs
 
 abbrev pub free : Slot → Bool
 free x = not (held x)
@@ -42,7 +42,7 @@ unfolding free_from first_from
 free-first k [] = refl
 free-first k (x ∷ xs) = rw (free-first (suc k) xs) (swap (held x))
   where
-    swap : (b : Bool) → (if b then first_from free (suc k) xs else At k) ≡ (if not b then At k else first_from free (suc k) xs)
+    swap : (b : Bool) → (if b then first_from free (suc k) xs else Some k) ≡ (if not b then Some k else first_from free (suc k) xs)
     swap true = refl
     swap false = refl
 
@@ -57,18 +57,18 @@ pub record First (f : Slot → Bool) (xs : List Slot) (k : ℕ) : Type 0 where
   pub here : f (get_or xs k no_file) ≡ true
   pub before : (j : ℕ) → j < k → f (get_or xs j no_file) ≡ false
 
-abbrev pub FindTells : (Slot → Bool) → ℕ → List Slot → Found → Type 0
-FindTells f i xs (At k) = (i ≤ k) × First f xs (k - i)
-FindTells f i xs Nothing = (j : ℕ) → j < length xs → f (get_or xs j no_file) ≡ false
+abbrev pub FindTells : (Slot → Bool) → ℕ → List Slot → Option ℕ → Type 0
+FindTells f i xs (Some k) = (i ≤ k) × First f xs (k - i)
+FindTells f i xs None = (j : ℕ) → j < length xs → f (get_or xs j no_file) ≡ false
 
 module _ (f : Slot → Bool) where
-  tells-here : (i : ℕ) (x : Slot) (xs : List Slot) → f x ≡ true → FindTells f i (x ∷ xs) (At i)
+  tells-here : (i : ℕ) (x : Slot) (xs : List Slot) → f x ≡ true → FindTells f i (x ∷ xs) (Some i)
   tells-here i x xs e =
       let z : i - i ≡ 0 = omega arith in
       (le_refl i, rw z (record { low = omega arith; here = e; before = below_none (λ (j : ℕ). f (get_or (x ∷ xs) j no_file) ≡ false) }))
 
-  tells-later : (i : ℕ) (x : Slot) (xs : List Slot) (r : Found) → f x ≡ false → FindTells f (suc i) xs r → FindTells f i (x ∷ xs) r
-  tells-later i x xs (At k) e (h, t) =
+  tells-later : (i : ℕ) (x : Slot) (xs : List Slot) (r : Option ℕ) → f x ≡ false → FindTells f (suc i) xs r → FindTells f i (x ∷ xs) r
+  tells-later i x xs (Some k) e (h, t) =
       let z : k - i ≡ suc (k - suc i) = omega arith in
       let later : First f (x ∷ xs) (suc (k - suc i)) =
       record {
@@ -77,7 +77,7 @@ module _ (f : Slot → Bool) where
         before = below-cons (λ (j : ℕ). f (get_or (x ∷ xs) j no_file) ≡ false) e t.before;
       } in
       (omega arith, rw z later)
-  tells-later i x xs Nothing e t = below-cons (λ (j : ℕ). f (get_or (x ∷ xs) j no_file) ≡ false) e t
+  tells-later i x xs None e t = below-cons (λ (j : ℕ). f (get_or (x ∷ xs) j no_file) ≡ false) e t
 
   tells : (i : ℕ) (xs : List Slot) → FindTells f i xs (first_from f i xs)
   unfolding first_from
@@ -85,10 +85,10 @@ module _ (f : Slot → Bool) where
   tells i (x ∷ xs) =
       if-cases (FindTells f i (x ∷ xs)) (f x) (λ e. tells-here i x xs e) (λ e. tells-later i x xs (first_from f (suc i) xs) e (tells (suc i) xs))
 
-  first-at : (xs : List Slot) (k : ℕ) → first_from f 0 xs ≡ At k → First f xs k
+  first-at : (xs : List Slot) (k : ℕ) → first_from f 0 xs ≡ Some k → First f xs k
   first-at xs k e = subst (First f xs) (sub-zero k) (subst (FindTells f 0 xs) e (tells 0 xs)).1
 
-  first-nothing : (xs : List Slot) → first_from f 0 xs ≡ Nothing → (j : ℕ) → j < length xs → f (get_or xs j no_file) ≡ false
+  first-nothing : (xs : List Slot) → first_from f 0 xs ≡ None → (j : ℕ) → j < length xs → f (get_or xs j no_file) ≡ false
   first-nothing xs e = subst (FindTells f 0 xs) e (tells 0 xs)
 
 -- "the lowest free slot"
@@ -98,13 +98,13 @@ pub record FreeAt (s : Station) (k : ℕ) : Type 0 where
   pub before : (j : ℕ) → j < k → held (slot_at s j) ≡ true
 
 module _ (s : Station) where
-  pub free-at : (k : ℕ) → free_slot s ≡ At k → FreeAt s k
+  pub free-at : (k : ℕ) → free_slot s ≡ Some k → FreeAt s k
   unfolding free_slot
   free-at k e =
       let h = first-at free s.slots k (sym (free-first 0 s.slots) ∙ e) in
       record { low = h.low; free = not-true (held (slot_at s k)) h.here; before = λ j l. not-false (held (slot_at s j)) (h.before j l) }
 
-  pub free-nowhere : free_slot s ≡ Nothing → (k : ℕ) → k < length s.slots → held (slot_at s k) ≡ true
+  pub free-nowhere : free_slot s ≡ None → (k : ℕ) → k < length s.slots → held (slot_at s k) ≡ true
   unfolding free_slot
   free-nowhere e k h =
       not-false (held (slot_at s k)) (first-nothing free s.slots (sym (free-first 0 s.slots) ∙ e) k h)
@@ -127,35 +127,35 @@ unfolding of_pair
 pair_same c a x p q = and_both (eq-eqb x.channel.0 c.0 p) (eq-eqb x.application.0 a.0 q)
 
 module _ (s : Station) (c : Channel) (a : Application) where
-  pub file-at : (k : ℕ) → file_of s c a ≡ At k → FileAt s c a k
+  pub file-at : (k : ℕ) → file_of s c a ≡ Some k → FileAt s c a k
   unfolding file_of
   file-at k e =
       let x = slot_at s k in
       let h = first-at (sought c a) s.slots k (sym (file-first c a 0 s.slots) ∙ e) in
       record { low = h.low; pair = and_left (of_pair c a x) (incomplete x) h.here; incomplete = and_right (of_pair c a x) (incomplete x) h.here }
 
-  pub file-nowhere : file_of s c a ≡ Nothing → (k : ℕ) → k < length s.slots → incomplete (slot_at s k) ≡ true → of_pair c a (slot_at s k) ≡ true → ⊥
+  pub file-nowhere : file_of s c a ≡ None → (k : ℕ) → k < length s.slots → incomplete (slot_at s k) ≡ true → of_pair c a (slot_at s k) ≡ true → ⊥
   unfolding file_of
   file-nowhere e k h i p =
       true≢false (sym (and_both p i) ∙ first-nothing (sought c a) s.slots (sym (file-first c a 0 s.slots) ∙ e) k h)
 
   -- a sound state has at most one, so the search finds it
-  pub file-only : Sized s → Sound s → (k : ℕ) → k < 32 → incomplete (slot_at s k) ≡ true → of_pair c a (slot_at s k) ≡ true → file_of s c a ≡ At k
+  pub file-only : Sized s → Sound s → (k : ℕ) → k < 32 → incomplete (slot_at s k) ≡ true → of_pair c a (slot_at s k) ≡ true → file_of s c a ≡ Some k
   file-only z h k low i p = go (file_of s c a) refl
     where
-      go : (r : Found) → file_of s c a ≡ r → file_of s c a ≡ At k
-      go (At j) e =
+      go : (r : Option ℕ) → file_of s c a ≡ r → file_of s c a ≡ Some k
+      go (Some j) e =
           let l = z.slots in
           let f = file-at j e in
           let u = same-pair c a (slot_at s j) f.pair in
           let v = same-pair c a (slot_at s k) p in
-          e ∙ ap At (h.alone j k (omega arith) low f.incomplete i (u.0 ∙ sym v.0) (u.1 ∙ sym v.1))
-      go Nothing e =
+          e ∙ ap Some (h.alone j k (omega arith) low f.incomplete i (u.0 ∙ sym v.0) (u.1 ∙ sym v.1))
+      go None e =
           let l = z.slots in
           absurd (file-nowhere e k (omega arith) i p)
 
 -- a slot that a search finds is one of them
-pub file-low : (c : Channel) (a : Application) (xs : List Slot) {k : ℕ} → file_from 0 c a xs ≡ At k → k < length xs
+pub file-low : (c : Channel) (a : Application) (xs : List Slot) {k : ℕ} → file_from 0 c a xs ≡ Some k → k < length xs
 file-low c a xs {k} e = (first-at (sought c a) xs k (sym (file-first c a 0 xs) ∙ e)).low
 
 -- a slot that becomes free needs nothing
@@ -165,38 +165,15 @@ needs-lower [] k = omega arith
 needs-lower (x ∷ xs) zero = omega arith
 needs-lower (x ∷ xs) (suc k) = omega (arith, needs-lower xs k)
 
--- the loop of a search: slot k is next, and what is left to search gives the answer
-pub record Seeking (answer : Found) (f : Slot → Bool) (xs : List Slot) (k : ℕ) : Type 0 where
-  pub within : k ≤ 32
-  pub long : length xs ≡ 32
-  pub gives : answer ≡ first_from f k (drop k xs)
+first-position : (f : Slot → Bool) (k : ℕ) (xs : List Slot) → position_from f k xs ≡ first_from f k xs
+unfolding first_from
+first-position f k [] = refl
+first-position f k (x ∷ xs) =
+    elim (f x) as (λ b. cond b (Some k) (position_from f (k + 1) xs) ≡ (if b then Some k else first_from f (suc k) xs))
+    [ true ↦ refl | false ↦ rw add-one (first-position f (suc k) xs) ]
 
-pub free-begins : (xs : List Slot) → length xs ≡ 32 → Seeking (free_from 0 xs) free xs 0
-free-begins xs l = record { within = omega arith; long = l; gives = free-first 0 xs }
-
-pub file-begins : (c : Channel) (a : Application) (xs : List Slot) → length xs ≡ 32 → Seeking (file_from 0 c a xs) (sought c a) xs 0
-file-begins c a xs l = record { within = omega arith; long = l; gives = file-first c a 0 xs }
-
-module _ {answer : Found} {f : Slot → Bool} {xs : List Slot} {k : ℕ} (m : Seeking answer f xs k) where
-  module _ (low : k < 32) where
-    pub seeking-on : f (get_or xs k no_file) ≡ false → Seeking answer f xs (k + 1)
-    unfolding first_from
-    seeking-on e =
-        let l = m.long in
-        record { within = omega arith; long = l; gives = m.gives ∙ rw (drop-cons xs k no_file (omega arith), e, add-one) }
-
-    pub seeking-here : f (get_or xs k no_file) ≡ true → At k ≡ answer
-    unfolding first_from
-    seeking-here e =
-        let l = m.long in
-        sym (m.gives ∙ rw (drop-cons xs k no_file (omega arith), e))
-
-  pub seeking-none : 32 ≤ k → Nothing ≡ answer
-  unfolding first_from
-  seeking-none h =
-      let l = m.long in
-      let past : length xs ≤ k = omega arith in
-      sym (m.gives ∙ rw (drop_of_length-le xs past))
+pub found_first : (f : Slot → Bool) (xs : List Slot) {r : Option ℕ} → r ≡ position f xs → r ≡ first_from f 0 xs
+found_first f xs e = e ∙ position_from-zero f xs ∙ first-position f 0 xs
 
 -- the loop that sums the needs, each below 2^49 as a length is below 2^64
 pub record Summing (xs : List Slot) (sum k : ℕ) : Type 0 where

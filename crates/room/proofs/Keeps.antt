@@ -1,4 +1,5 @@
 -- What the moves do, and that they keep the state sound: a file opened, a file let go, a file with its next packet. Assumes nothing.
+use Rattle.std.specs.Prelude.{Option, Some, None}
 use mathlib.Core.Path.{◌≡◌, refl, sym, ap, ◌∙◌}
 use mathlib.Core.Bool.{Bool, true, false, true≢false}
 use mathlib.Core.List.{List, [], ◌∷◌}
@@ -19,8 +20,6 @@ use Rattle.state.specs.Sound.{Sized, SetUp, HeldSlot, Sound, DesksSound}
 use Rattle.state.proofs.Blocks.{entry-low, entry_here, rank-low}
 use Rattle.state.proofs.Exactly.{table-length, held-accepted, owner-held, free-owns-none}
 use Rattle.state.proofs.Places.{free-room}
-use Rattle.room.specs.declared.Found.{Found}
-use Rattle.room.specs.declared.Found.TheVariants.{At, Nothing}
 use Rattle.room.specs.Find.{file_of}
 use Rattle.room.specs.Move.{given, with_file, opened, let_go}
 use Rattle.room.proofs.Given.{
@@ -260,7 +259,7 @@ pub record Opening (s : Station) (k : ℕ) (x : Slot) : Type 0 where
   pub free : held (slot_at s k) ≡ false
   pub fit : Fit s x
   pub fits : need_of x ≤ room s
-  pub alone : incomplete x ≡ true → file_of s x.channel x.application ≡ Nothing
+  pub alone : incomplete x ≡ true → file_of s x.channel x.application ≡ None
 
 module _ {s : Station} (z : Sized s) (h : Sound s) {k : ℕ} {x : Slot} (o : Opening s k x) where
   pub opened-sound : Sound (opened s k x)
@@ -312,11 +311,11 @@ module _ {s : Station} (z : Sized s) (h : Sound s) {k : ℕ} (low : k < 32) wher
       (arith, free-room (refiled-sized (let_go-refiles s k) z) let_go-sound, free-room z h, let_go-free s k, (h.files k low e).places)
 
   -- "an incomplete file of the pair is abandoned": then the pair has none
-  pub let_go-alone : (c : Channel) (a : Application) → file_of s c a ≡ At k → file_of (let_go s k) c a ≡ Nothing
+  pub let_go-alone : (c : Channel) (a : Application) → file_of s c a ≡ Some k → file_of (let_go s k) c a ≡ None
   let_go-alone c a e = go (file_of (let_go s k) c a) refl
     where
-      go : (f : Found) → file_of (let_go s k) c a ≡ f → file_of (let_go s k) c a ≡ Nothing
-      go (At j) q =
+      go : (f : Option ℕ) → file_of (let_go s k) c a ≡ f → file_of (let_go s k) c a ≡ None
+      go (Some j) q =
           let r = let_go-refiles s k in
           let f = file-at (let_go s k) c a j q in
           let l : j < 32 = omega (arith, f.low, (refiled-sized r z).slots) in
@@ -325,11 +324,11 @@ module _ {s : Station} (z : Sized s) (h : Sound s) {k : ℕ} (low : k < 32) wher
             | no g ↦
                 let i = rw (refiled-slots r j g) at f.incomplete in
                 let p = rw (refiled-slots r j g) at f.pair in
-                let there : file_of s c a ≡ At j = file-only s c a z h j l i p in
+                let there : file_of s c a ≡ Some j = file-only s c a z h j l i p in
                 let same : j ≡ k = cc in
                 absurd (g same)
           ]
-      go Nothing q = q
+      go None q = q
 
 -- a packet more for the file of slot k
 pub record Next (s : Station) (k : ℕ) (x : Slot) : Type 0 where

@@ -13,40 +13,24 @@ use frame::Channel;
 use packet::Application;
 use state::{Slot, Station};
 
-#[derive(Clone, Copy)]
-pub enum Found {
-    At(usize),
-    Nothing,
-}
-
 // The lowest free slot.
-pub fn free_slot(slots: [Slot; Station::SLOTS]) -> Found
+pub fn free_slot(slots: [Slot; Station::SLOTS]) -> Option<usize>
     ensures { result ≡ free_from 0 slots }
 {
-    let mut k: usize = 0;
-    while k < Station::SLOTS {
-        let x = slots[k];
-        if !x.is_held() {
-            return Found::At(k);
-        }
-        k += 1;
-    }
-    Found::Nothing
+    slots.iter().position(|x| !x.is_held())
 }
 
 // The slot of the incomplete file of a channel and application.
-pub fn file_of(slots: [Slot; Station::SLOTS], channel: Channel, application: Application) -> Found
+pub fn file_of(
+    slots: [Slot; Station::SLOTS],
+    channel: Channel,
+    application: Application,
+) -> Option<usize>
     ensures { result ≡ file_from 0 channel application slots }
 {
-    let mut k: usize = 0;
-    while k < Station::SLOTS {
-        let x = slots[k];
-        if x.is_incomplete_of(channel, application) {
-            return Found::At(k);
-        }
-        k += 1;
-    }
-    Found::Nothing
+    slots
+        .iter()
+        .position(|x| x.is_incomplete_of(channel, application))
 }
 
 // The needs of the held files, all together. No sum of 32 needs can wrap.
@@ -54,14 +38,9 @@ pub fn needs(slots: [Slot; Station::SLOTS]) -> u64
     ensures { result ≡ needs_of slots }
 {
     let mut sum: u64 = 0;
-    let mut k: usize = 0;
-    while k < Station::SLOTS {
-        let x = slots[k];
+    for x in &slots {
         if x.is_held() {
             sum += x.need();
-            k += 1;
-        } else {
-            k += 1;
         }
     }
     sum

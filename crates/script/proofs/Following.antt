@@ -1,72 +1,51 @@
 -- A script followed command by command: what comes next, what is known of a command that goes on, and that what is left of a script gives what the
 -- whole gives. Assumes nothing.
+use Rattle.std.specs.Prelude.{Option, Some, None}
 use mathlib.Core.Path.{◌≡◌, refl, sym, ap, ◌∙◌}
 use mathlib.Core.Bool.{Bool, true, false}
 use mathlib.Core.List.{List}
 use Prim.Native.Nat.{ℕ, zero, suc, ◌+◌, ◌-◌, ◌≤◌, ◌<◌}
 use native.Mathlib.Numerals.{add-one}
 use native.Mathlib.Omega.{arith}
-use borrow.Author.Tests.{le-leb, lt-leb, leb-true}
+use borrow.Author.Tests.{lt-leb, leb-true}
 use lib.Dec.{leb}
 use lib.ListN.{length, take, drop, length-drop}
 use lib.Seq.{drop-drop}
 use Rattle.octets.specs.Number.{part}
 use Rattle.octets.proofs.Lists.{whole_part}
 use Rattle.script.specs.declared.Command.{Command}
-use Rattle.script.specs.declared.Payload.{Payload}
-use Rattle.script.specs.declared.Payload.TheVariants.{Octets, Refused}
-use Rattle.script.specs.declared.Next.{Next}
-use Rattle.script.specs.declared.Next.TheVariants.{Goes, Ends}
 use Rattle.script.specs.Script.{command_of}
 use Rattle.script.specs.Follow.{next_by, next_of, leaves, followed_in, followed}
 
--- what a payload makes of a command
-module _ (left : ℕ) (x : Command) {p : Payload} where
-  pub by-refused : p ≡ Refused → Ends ≡ next_by left x p
-  by-refused e = rw e
-
-  pub by-cut : {k : ℕ} → p ≡ Octets k → left < 16 + k → Ends ≡ next_by left x p
-  by-cut {k} e l = rw (e, lt-leb (16 + k) left l)
-
-  pub by_whole : {k : ℕ} → p ≡ Octets k → 16 + k ≤ left → Goes x k ≡ next_by left x p
-  by_whole {k} e l = rw (e, le-leb (16 + k) left l)
-
-module _ (payload : Command → Payload) where
+module _ (payload : Command → Option ℕ) where
   -- the command at place at, `&script[at..at + 16]`
   module _ (script : List ℕ) (at : ℕ) where
-    pub next-short : length script - at < 16 → next_of payload (drop at script) ≡ Ends
+    pub next-short : length script - at < 16 → next_of payload (drop at script) ≡ None
     unfolding next_of
     next-short h = rw (lt-leb 16 (length (drop at script)) (omega (arith, length-drop at script)))
 
-    pub next-whole : {x : Command} {p : Payload} {r : Next} → x ≡ command_of (take (at + 16 - at) (drop at script)) → p ≡ payload x
-        → r ≡ next_by (length script - at) x p → at + 16 ≤ length script → r ≡ next_of payload (drop at script)
-    unfolding next_of
-    next-whole {x} {p} {r} e q s h =
-        let k : at + 16 - at ≡ 16 = omega arith in
-        let read : x ≡ command_of (take 16 (drop at script)) = rw k at e in
-        s ∙ sym (rw (le-leb 16 (length (drop at script)) (omega (arith, length-drop at script)), length-drop at script, q, read))
-
-  never : {x : Command} {k : ℕ} → Ends ≡ Goes x k → ⊥
+  never : {x : Command} {k : ℕ} → ◌≡◌ {A = Option (Command × ℕ)} None (Some (x, k)) → ⊥
   never e = let z : ◌≡◌ {A = ℕ} 0 1 = cc in omega arith
 
   -- a command that goes on has its payload behind it, as long as it says
   pub record Gone (rest : List ℕ) (x : Command) (k : ℕ) : Type 0 where
     pub there : 16 + k ≤ length rest
-    pub said : payload x ≡ Octets k
+    pub said : payload x ≡ Some k
 
-  gone-by : (rest : List ℕ) (y : Command) (p : Payload) {x : Command} {k : ℕ} → payload y ≡ p → next_by (length rest) y p ≡ Goes x k → Gone rest x k
-  gone-by rest y Refused q e = absurd (never e)
-  gone-by rest y (Octets j) {x} {k} q e = go (leb (16 + j) (length rest)) refl
+  gone-by : (rest : List ℕ) (y : Command) (p : Option ℕ) {x : Command} {k : ℕ} → payload y ≡ p → next_by (length rest) y p ≡ Some (x, k) → Gone rest x k
+  gone-by rest y None q e = absurd (never e)
+  gone-by rest y (Some j) {x} {k} q e = go (leb (16 + j) (length rest)) refl
     where
       go : (b : Bool) → leb (16 + j) (length rest) ≡ b → Gone rest x k
       go true t =
-          let same : Goes y j ≡ Goes x k = rw t at e in
-          let number : j ≡ k = cc in
-          let command : y ≡ x = cc in
+          let same : ◌≡◌ {A = Option (Command × ℕ)} (Some (y, j)) (Some (x, k)) = rw t at e in
+          let pair : ◌≡◌ {A = Command × ℕ} (y, j) (x, k) = cc in
+          let number : j ≡ k = ap (λ (p : Command × ℕ). p.1) pair in
+          let command : y ≡ x = ap (λ (p : Command × ℕ). p.0) pair in
           record { there = omega (arith, leb-true (16 + j) (length rest) t); said = rw (← command, ← number) q }
       go false t = absurd (never (rw t at e))
 
-  gone : (rest : List ℕ) {x : Command} {k : ℕ} → next_of payload rest ≡ Goes x k → Gone rest x k
+  gone : (rest : List ℕ) {x : Command} {k : ℕ} → next_of payload rest ≡ Some (x, k) → Gone rest x k
   unfolding next_of
   gone rest {x} {k} e = go (leb 16 (length rest)) refl
     where
@@ -75,12 +54,12 @@ module _ (payload : Command → Payload) where
       go false t = absurd (never (rw t at e))
 
   module _ {M : Type 0} (does : Command → List ℕ → M → M) where
-    ends : (steps : ℕ) (m : M) (n : ℕ) (rest : List ℕ) → next_of payload rest ≡ Ends → followed_in payload does steps m n rest ≡ leaves m n rest
+    ends : (steps : ℕ) (m : M) (n : ℕ) (rest : List ℕ) → next_of payload rest ≡ None → followed_in payload does steps m n rest ≡ leaves m n rest
     unfolding followed_in
     ends zero m n rest e = refl
     ends (suc steps) m n rest e = rw (e, followed_in)
 
-    goes : (steps : ℕ) (m : M) (n : ℕ) (rest : List ℕ) {x : Command} {k : ℕ} → next_of payload rest ≡ Goes x k
+    goes : (steps : ℕ) (m : M) (n : ℕ) (rest : List ℕ) {x : Command} {k : ℕ} → next_of payload rest ≡ Some (x, k)
         → followed_in payload does (suc steps) m n rest ≡ followed_in payload does steps (does x (part 16 k rest) m) (suc n) (drop (16 + k) rest)
     unfolding followed_in
     goes steps m n rest e = rw (e, followed_in)
@@ -97,9 +76,9 @@ module _ (payload : Command → Payload) where
     unfolding followed
     following-none start script = record { within = omega arith; few = omega arith; steps = length script; enough = omega arith; gives = refl }
 
-module _ {payload : Command → Payload} {M : Type 0} {does : Command → List ℕ → M → M} {start : M} {script : List ℕ} {now : M} {n at : ℕ}
+module _ {payload : Command → Option ℕ} {M : Type 0} {does : Command → List ℕ → M → M} {start : M} {script : List ℕ} {now : M} {n at : ℕ}
     (g : Following payload does start script now n at) where
-  pub following-ends : {m : ℕ} → m ≡ length script - at → next_of payload (drop at script) ≡ Ends
+  pub following-ends : {m : ℕ} → m ≡ length script - at → next_of payload (drop at script) ≡ None
       → record { memory = now; commands = n; unused = m } ≡ followed payload does start script
   following-ends {m} u e =
       let left : m ≡ length (drop at script) = omega (arith, length-drop at script) in
@@ -110,17 +89,17 @@ module _ {payload : Command → Payload} {M : Type 0} {does : Command → List �
   following-all h = following-ends (omega (arith, g.within)) (next-short payload script at (omega arith))
 
   -- a command that goes on is there with its payload, `&script[at + 16..at + 16 + k]`
-  pub following-there : {x : Command} {k : ℕ} → next_of payload (drop at script) ≡ Goes x k → at + 16 + k ≤ length script
+  pub following-there : {x : Command} {k : ℕ} → next_of payload (drop at script) ≡ Some (x, k) → at + 16 + k ≤ length script
   following-there e = omega (arith, (gone payload (drop at script) e).there, length-drop at script)
 
-  pub following-said : {x : Command} {k : ℕ} → next_of payload (drop at script) ≡ Goes x k
-      → payload x ≡ Octets (length (part (at + 16) (at + 16 + k - (at + 16)) script))
+  pub following-said : {x : Command} {k : ℕ} → next_of payload (drop at script) ≡ Some (x, k)
+      → payload x ≡ Some (length (part (at + 16) (at + 16 + k - (at + 16)) script))
   following-said {x} {k} e =
       let there = following-there e in
       let count : length (part (at + 16) (at + 16 + k - (at + 16)) script) ≡ k = whole_part script (at + 16) (at + 16 + k - (at + 16)) (omega arith) ∙ omega arith in
-      (gone payload (drop at script) e).said ∙ ap Octets (sym count)
+      (gone payload (drop at script) e).said ∙ ap Some (sym count)
 
-  pub following-more : {x : Command} {k : ℕ} {after : M} → next_of payload (drop at script) ≡ Goes x k
+  pub following-more : {x : Command} {k : ℕ} {after : M} → next_of payload (drop at script) ≡ Some (x, k)
       → after ≡ does x (part (at + 16) (at + 16 + k - (at + 16)) script) now
       → Following payload does start script after (n + 1) (at + 16 + k)
   following-more {x} {k} {after} e a = go g.steps g.enough g.gives

@@ -1,4 +1,2 @@
--- Laws of the script: fields poked, by their number, what a letter says of its limits, and a script that is read whole, followed.
-pub mod Poking
-pub mod Limits
+-- Laws of the script: one that is read whole, followed.
 pub mod Following

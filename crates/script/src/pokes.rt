@@ -9,6 +9,7 @@ use frame::{Channel, Counter};
 use packet::{Application, Count};
 use state::{Desk, Slot, Station};
 
+#[tactic(auto, unfolding(crate::specs::Memory::lent))]
 fn lend(w: Run, x: Command, desks: &[u8], store: &[u8]) -> Run
     ensures memory_value { memory result desks.now store.now ≡ lent x (memory w desks.now store.now) }
     ensures end_value { result.end ≡ w.end }
@@ -24,70 +25,48 @@ fn set_octet(buffer: &mut [u8], d: u64, v: u8)
     ensures { buffer.new ≡ set buffer.old d v }
 {
     if d < buffer.len() as u64 {
-        let i = d as usize;
-        buffer[i] = v;
+        buffer[d as usize] = v;
     }
 }
 
+#[tactic(auto, unfolding(crate::specs::Memory::octet_set))]
 fn poke_octet(x: Command, desks: &mut [u8], store: &mut [u8])
     ensures { (desks.new ≡ octet_set 0 x desks.old) × (store.new ≡ octet_set 1 x store.old) }
 {
     let v = (x.b % 256) as u8;
-    if x.a == 0 {
-        set_octet(desks, x.d, v);
-        return;
-    }
-    if x.a == 1 {
-        set_octet(store, x.d, v);
+    match x.a {
+        0 => set_octet(desks, x.d, v),
+        1 => set_octet(store, x.d, v),
+        _ => {}
     }
 }
 
+#[tactic(auto, unfolding(crate::specs::Pokes::desk_poked))]
 fn poke_desk(x: Desk, a: u8, d: u64) -> Desk
     ensures { result ≡ desk_poked a d x }
 {
     let mut y = x;
-    if a == 3 {
-        y.held = (d % 65536) as u16;
-        return y;
-    }
-    if a == 4 {
-        y.seen = d != 0;
-        return y;
-    }
-    if a == 5 {
-        let counter = Counter((d % 4294967296) as u32);
-        y.counter = counter;
-        return y;
+    match a {
+        3 => y.held = (d % 65536) as u16,
+        4 => y.seen = d != 0,
+        5 => y.counter = Counter((d % 4294967296) as u32),
+        _ => {}
     }
     y
 }
 
+#[tactic(auto, unfolding(crate::specs::Pokes::slot_poked))]
 fn poke_slot(x: Slot, a: u8, d: u64) -> Slot
     ensures { result ≡ slot_poked a d x }
 {
     let mut y = x;
-    if a == 8 {
-        let channel = Channel((d % 256) as u8);
-        y.channel = channel;
-        return y;
-    }
-    if a == 9 {
-        let application = Application((d % 65536) as u16);
-        y.application = application;
-        return y;
-    }
-    if a == 10 {
-        y.bits = d;
-        return y;
-    }
-    if a == 11 {
-        let count = Count((d % 65536) as u16);
-        y.count = count;
-        return y;
-    }
-    if a == 12 {
-        y.accepted = (d % 65536) as u16;
-        return y;
+    match a {
+        8 => y.channel = Channel((d % 256) as u8),
+        9 => y.application = Application((d % 65536) as u16),
+        10 => y.bits = d,
+        11 => y.count = Count((d % 65536) as u16),
+        12 => y.accepted = (d % 65536) as u16,
+        _ => {}
     }
     y
 }
@@ -98,8 +77,7 @@ fn poke_watched(watched: [Channel; 8], b: u16, d: u64) -> [Channel; 8]
     let mut after = watched;
     let i = b as usize;
     if i < 8 {
-        let channel = Channel((d % 256) as u8);
-        after[i] = channel;
+        after[i] = Channel((d % 256) as u8);
     }
     after
 }
@@ -110,8 +88,7 @@ fn poke_desks(desks: [Desk; 8], a: u8, b: u16, d: u64) -> [Desk; 8]
     let mut after = desks;
     let i = b as usize;
     if i < 8 {
-        let x = poke_desk(after[i], a, d);
-        after[i] = x;
+        after[i] = poke_desk(after[i], a, d);
     }
     after
 }
@@ -122,75 +99,44 @@ fn poke_slots(slots: [Slot; 32], a: u8, b: u16, d: u64) -> [Slot; 32]
     let mut after = slots;
     let i = b as usize;
     if i < Station::SLOTS {
-        let x = poke_slot(after[i], a, d);
-        after[i] = x;
+        after[i] = poke_slot(after[i], a, d);
     }
     after
 }
 
 // Field a of the state, of index b where it is an array, becomes d modulo its width.
+#[tactic(auto, unfolding(crate::specs::Pokes::poked))]
 fn poke_state(s: Station, a: u8, b: u16, d: u64) -> Station
     ensures { result ≡ poked a b d s }
 {
     let mut t = s;
-    if a == 0 {
-        t.spacecraft = (d % 256) as u8;
-        return t;
-    }
-    if a == 1 {
-        t.channels = (d % 256) as u8;
-        return t;
-    }
-    if a == 2 {
-        let watched = t.watched;
-        let after = poke_watched(watched, b, d);
-        t.watched = after;
-        return t;
-    }
-    if a <= 5 {
-        let desks = t.desks;
-        let after = poke_desks(desks, a, b, d);
-        t.desks = after;
-        return t;
-    }
-    if a == 6 {
-        t.blocks = (d % 65536) as u16;
-        return t;
-    }
-    if a == 7 {
-        let i = b as usize;
-        if i < Station::MOST_BLOCKS as usize {
-            t.owner[i] = (d % 256) as u8;
-        }
-        return t;
-    }
-    if a <= 12 {
-        let slots = t.slots;
-        let after = poke_slots(slots, a, b, d);
-        t.slots = after;
-        return t;
+    let i = b as usize;
+    match a {
+        0 => t.spacecraft = (d % 256) as u8,
+        1 => t.channels = (d % 256) as u8,
+        2 => t.watched = poke_watched(t.watched, b, d),
+        3..=5 => t.desks = poke_desks(t.desks, a, b, d),
+        6 => t.blocks = (d % 65536) as u16,
+        7 if i < Station::MOST_BLOCKS as usize => t.owner[i] = (d % 256) as u8,
+        8..=12 => t.slots = poke_slots(t.slots, a, b, d),
+        _ => {}
     }
     t
 }
 
 // M, P or Q, by the letter. They print nothing.
+#[tactic(auto, unfolding(crate::specs::Memory::octet_poked, crate::specs::Memory::state_poked, crate::specs::Memory::poked_by))]
 pub fn poke(w: Run, x: Command, desks: &mut [u8], store: &mut [u8]) -> Run
     ensures memory_after { memory result desks.new store.new ≡ poked_by x (memory w desks.old store.old) }
     ensures end_value { result.end ≡ 0 }
 {
     let mut r = w;
     r.end = 0;
-    let letter = x.letter;
-    if letter == b'M' {
-        return lend(r, x, desks, store);
-    }
-    if letter == b'P' {
-        poke_octet(x, desks, store);
-        return r;
-    }
-    if letter == b'Q' {
-        r.station = poke_state(r.station, x.a, x.b, x.d);
-        return r;
+    match x.letter {
+        b'M' => return lend(r, x, desks, store),
+        b'P' => poke_octet(x, desks, store),
+        b'Q' => r.station = poke_state(r.station, x.a, x.b, x.d),
+        _ => {}
     }
     r
 }

@@ -23,11 +23,10 @@ whole_by_lem (ws ∷ wss) xs =
 
 pub record Chaining (s : List ℕ) (at : ℕ) (sizes : List ℕ) (k p : ℕ) : Type 0 where
   pub within : p ≤ length s
-  pub low : k ≤ length sizes
   pub gives : whole_by sizes (drop at s) ≡ whole_by (drop k sizes) (drop p s)
 
 pub chaining : (s : List ℕ) (at : ℕ) (sizes : List ℕ) → at ≤ length s → Chaining s at sizes 0 at
-chaining s at sizes h = record { within = h; low = omega arith; gives = refl }
+chaining s at sizes h = record { within = h; gives = refl }
 
 module _ {s : List ℕ} {at : ℕ} {sizes : List ℕ} {k p : ℕ} (C : Chaining s at sizes k p) (h : k < length sizes) where
   abbrev w : ℕ
@@ -51,7 +50,6 @@ module _ {s : List ℕ} {at : ℕ} {sizes : List ℕ} {k p : ℕ} (C : Chaining 
       let z : number_at (drop p s) 0 2 ≡ x = number_at-drop p s 0 2 ∙ ap (λ (j : ℕ). number_at s j 2) (add-zero p) ∙ sym q in
       record {
         within = chain-room e t x q;
-        low = omega arith;
         gives = turn ∙ rw (sym e ∙ t)
             (ap (λ (j : ℕ). whole_by (drop (suc k) sizes) (drop (2 + j * w) (drop p s))) z ∙ ap (whole_by (drop (suc k) sizes)) (drop-drop (2 + x * w) p s)
             ∙ ap (λ (j : ℕ). whole_by (drop j sizes) (drop (p + (2 + x * w)) s)) (sym (add-one k)));

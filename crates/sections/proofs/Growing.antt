@@ -2,11 +2,9 @@
 use mathlib.Core.Path.{◌≡◌, refl, sym, ap, ap₂, ◌∙◌}
 use mathlib.Core.List.{List, [], ◌∷◌, ◌++◌, append_assoc}
 use mathlib.Core.Logic.{inl}
-use Prim.Native.Nat.{ℕ, suc, ◌+◌, ◌*◌, ◌≤◌, ◌<◌}
-use native.Mathlib.Numerals.{add-one}
+use Prim.Native.Nat.{ℕ, ◌+◌, ◌*◌, ◌≤◌}
 use native.Mathlib.Omega.{arith}
-use lib.ListN.{length, drop, get_or, length-append, drop_of_length-le}
-use lib.Seq.{drop-cons}
+use lib.ListN.{length, length-append, drop_of_length-le}
 use Rattle.octets.specs.Number.{part, in_octets}
 use Rattle.octets.specs.Buffer.{put}
 use Rattle.octets.proofs.Lists.{whole_part}
@@ -15,44 +13,32 @@ use Rattle.octets.proofs.Storing.{length-in_octets}
 use Rattle.sections.specs.Sections.{Row, size, row, rows, section}
 
 -- the loop that writes an entry: what is left of it, stored behind what was written, gives the entry
-pub record Writing (ws vs was dst : List ℕ) (at i p : ℕ) : Type 0 where
-  pub within : i ≤ length ws
-  pub long : length dst ≡ length was
-  pub room : p + size (drop i ws) ≤ length dst
-  pub gives : put was at (row ws vs) ≡ put dst p (row (drop i ws) (drop i vs))
+pub record Writing (ws vs was dst : List ℕ) (at p : ℕ) (widths numbers : List ℕ) : Type 0 where
+  pub same : length numbers ≡ length widths
+  pub room : p + size widths ≤ length dst
+  pub gives : put was at (row ws vs) ≡ put dst p (row widths numbers)
 
-pub writing : (ws vs was : List ℕ) (at : ℕ) → at + size ws ≤ length was → Writing ws vs was was at 0 at
-writing ws vs was at h = record { within = omega arith; long = refl; room = h; gives = refl }
+pub writing : (ws vs was : List ℕ) (at : ℕ) → length vs ≡ length ws → at + size ws ≤ length was → Writing ws vs was was at at ws vs
+writing ws vs was at e h = record { same = e; room = h; gives = refl }
 
-module _ {ws vs was dst : List ℕ} {at i p : ℕ} (W : Writing ws vs was dst at i p) (same : length vs ≡ length ws) (h : i < length ws) where
-  abbrev w : ℕ
-  w = get_or ws i 0
+module _ {ws vs was dst : List ℕ} {at p : ℕ} {widths numbers : List ℕ} (W : Writing ws vs was dst at p widths numbers) where
+  pub write-room : {w : ℕ} {rest : List ℕ} → widths ≡ w ∷ rest → p + w ≤ length dst
+  write-room e = omega (arith, ap size e, W.room)
 
-  abbrev v : ℕ
-  v = get_or vs i 0
-
-  wide : size (drop i ws) ≡ w + size (drop (suc i) ws)
-  wide = ap size (drop-cons ws i 0 h)
-
-  pub write-room : p + w + size (drop (suc i) ws) ≤ length dst
-  write-room = omega (arith, wide, W.room)
-
-  pub write-more : {d : List ℕ} → d ≡ put dst p (in_octets w v) → Writing ws vs was d at (i + 1) (p + w)
-  write-more {d} q =
-      let rest = row (drop (suc i) ws) (drop (suc i) vs) in
-      let next : row (drop i ws) (drop i vs) ≡ in_octets w v ++ rest = ap₂ row (drop-cons ws i 0 h) (drop-cons vs i 0 (omega arith)) in
-      let e : p + w ≡ p + length (in_octets w v) = omega (arith, length-in_octets w v) in
+  pub write-more : {w v : ℕ} {us xs d : List ℕ} → widths ≡ w ∷ us → numbers ≡ v ∷ xs → d ≡ put dst p (in_octets w v) → Writing ws vs was d at (p + w) us xs
+  write-more {w} {v} {us} {xs} {d} e f q =
       let l : length d ≡ length dst = ap length q ∙ length-put dst p (in_octets w v) in
+      let next : p + w ≡ p + length (in_octets w v) = omega (arith, length-in_octets w v) in
       record {
-        within = omega arith;
-        long = l ∙ W.long;
-        room = rw add-one (omega (arith, write-room, l));
-        gives = rw add-one (W.gives ∙ ap (put dst p) next ∙ sym (ap₂ (λ (b : List ℕ) (k : ℕ). put b k rest) q e ∙ put-put (in_octets w v) dst p rest));
+        same = omega (arith, W.same, ap length e, ap length f);
+        room = omega (arith, ap size e, W.room, l);
+        gives = W.gives ∙ ap (put dst p) (ap₂ row e f) ∙ sym (ap₂ (λ (b : List ℕ) (k : ℕ). put b k (row us xs)) q next ∙ put-put (in_octets w v) dst p (row us xs));
       }
 
-pub write-end : {ws vs was dst : List ℕ} {at i p : ℕ} → Writing ws vs was dst at i p → length ws ≤ i → dst ≡ put was at (row ws vs)
-write-end {ws} {vs} {was} {dst} {at} {i} {p} W h =
-    sym (W.gives ∙ ap (λ (us : List ℕ). put dst p (row us (drop i vs))) (drop_of_length-le ws h) ∙ put-nil dst p)
+  pub write-end : length widths ≡ 0 → dst ≡ put was at (row ws vs)
+  write-end h =
+      let none : widths ≡ [] = drop_of_length-le widths {i = 0} (omega arith) in
+      sym (W.gives ∙ ap (λ (us : List ℕ). put dst p (row us numbers)) none ∙ put-nil dst p)
 
 -- sections of joined lists
 pub rows_append : (ws : List ℕ) (rs ss : List Row) → rows ws (rs ++ ss) ≡ rows ws rs ++ rows ws ss

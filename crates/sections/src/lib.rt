@@ -11,16 +11,12 @@ ghost use Rattle.octets.specs.Number.{part, number_at, in_octets};
 ghost use Rattle.octets.specs.Buffer.{put};
 ghost use Rattle.sections.specs.Sections.{size, row as row_of, whole_by};
 
-// n octets from place at on, stored again by so many places further. The last one is moved first, so the two stretches may overlap.
+// n octets from place at on, stored again by so many places further. The two stretches may overlap.
 fn shift(dst: &mut [u8], at: usize, n: usize, by: usize)
     requires { at + by + n ≤ length dst.old }
     ensures { dst.new ≡ put dst.old (at + by) (part at n dst.old) }
 {
-    let mut i = n;
-    while i > 0 {
-        i -= 1;
-        dst[at + by + i] = dst[at + i];
-    }
+    dst.copy_within(at..at + n, at + by);
 }
 
 // Whether a section of entries of w octets that begins at place at ends within s.
@@ -41,14 +37,12 @@ pub fn is_sections(s: &[u8], at: usize, sizes: &[u8]) -> bool
     ensures { result ≡ whole_by sizes.now (drop at s.now) }
 {
     let mut p = at;
-    let mut k: usize = 0;
-    while k < sizes.len() {
-        let w = sizes[k] as usize;
+    for size in sizes {
+        let w = *size as usize;
         if !fits(s, p, w) {
             return false;
         }
-        p = p + (2 + octets::u16_at(s, p) as usize * w);
-        k += 1;
+        p += 2 + octets::u16_at(s, p) as usize * w;
     }
     p == s.len()
 }
@@ -59,12 +53,10 @@ pub fn write_row(dst: &mut [u8], at: usize, widths: &[u8], numbers: &[u64])
     ensures { dst.new ≡ put dst.old at (row_of widths.now numbers.now) }
 {
     let mut p = at;
-    let mut i: usize = 0;
-    while i < widths.len() {
-        let w = widths[i] as usize;
-        octets::store(dst, p, w, numbers[i]);
+    for (width, number) in widths.iter().zip(numbers) {
+        let w = *width as usize;
+        octets::store(dst, p, w, *number);
         p += w;
-        i += 1;
     }
 }
 

@@ -3,7 +3,7 @@
 // Promises: the text that stands in the lent buffer is an equation on the whole buffer, each line in its place (specs/Shown.antt).
 #![tactic(auto)]
 
-ghost use Rattle.std.specs.Prelude.{◌≡◌, ◌+◌, ◌*◌, ◌≤◌, ◌<◌, length, take, if◌then◌else◌};
+ghost use Rattle.std.specs.Prelude.{◌≡◌, ◌+◌, ◌*◌, ◌≤◌, ◌<◌, length, take};
 ghost use Rattle.text.specs.Pieces.{Written};
 ghost use Rattle.state.specs.Blocks.{numbers_of};
 ghost use Rattle.show.specs.Shown.{head_line, spaced_all, all_fields_zero, slot_line, slot_lines, channel_line, channel_lines, shown};
@@ -27,13 +27,9 @@ fn block_numbers(owner: u8, table: &[u8], out: &mut [u8], at: usize) -> usize
     ensures { (result ≤ at + 21 * length (numbers_of owner 0 table.now)) × Written out.old at (spaced_all (numbers_of owner 0 table.now)) out.new result }
 {
     let mut end = at;
-    let mut i: usize = 0;
-    while i < table.len() {
-        if table[i] == owner {
+    for (i, o) in table.iter().enumerate() {
+        if *o == owner {
             end = text::number(i as u64, out, end);
-            i += 1;
-        } else {
-            i += 1;
         }
     }
     end
@@ -42,22 +38,7 @@ fn block_numbers(owner: u8, table: &[u8], out: &mut [u8], at: usize) -> usize
 fn is_all_zero(x: Slot) -> bool
     ensures { result ≡ all_fields_zero x }
 {
-    let channel = x.channel;
-    if channel.0 != 0 {
-        return false;
-    }
-    let application = x.application;
-    if application.0 != 0 {
-        return false;
-    }
-    if x.bits != 0 {
-        return false;
-    }
-    let count = x.count;
-    if count.0 != 0 {
-        return false;
-    }
-    x.accepted == 0
+    x == Slot::none()
 }
 
 // The line of slot k.
@@ -65,18 +46,15 @@ fn slot_line(k: usize, x: Slot, table: &[u8], out: &mut [u8], at: usize) -> usiz
     requires { (k < 32) × (at + 128 + 21 * length (numbers_of (k + 1) 0 table.now) ≤ length out.old) }
     ensures { (result ≤ at + 128 + 21 * length (numbers_of (k + 1) 0 table.now)) × Written out.old at (slot_line k x table.now) out.new result }
 {
-    let channel = x.channel;
-    let application = x.application;
-    let count = x.count;
     let letter = text::word(b"T", out, at);
     let third = text::numbers(
         k as u64,
-        channel.0 as u64,
-        application.0 as u64,
+        x.channel.0 as u64,
+        x.application.0 as u64,
         out,
         letter,
     );
-    let sixth = text::numbers(x.bits, count.0 as u64, x.accepted as u64, out, third);
+    let sixth = text::numbers(x.bits, x.count.0 as u64, x.accepted as u64, out, third);
     let last = block_numbers(k as u8 + 1, table, out, sixth);
     text::line_end(out, last)
 }
@@ -87,38 +65,23 @@ fn slot_lines(slots: [Slot; 32], table: &[u8], out: &mut [u8], at: usize) -> usi
     ensures { (result ≤ at + 4096 + 21 * length table.now) × Written out.old at (slot_lines 0 slots table.now) out.new result }
 {
     let mut end = at;
-    let mut k: usize = 0;
-    while k < Station::SLOTS {
+    for k in 0..Station::SLOTS {
         let x = slots[k];
-        if is_all_zero(x) {
-            k += 1;
-        } else {
+        if !is_all_zero(x) {
             end = slot_line(k, x, table, out, end);
-            k += 1;
         }
     }
     end
-}
-
-// 1 for yes, and 0.
-fn as_number(yes: bool) -> u64
-    ensures { result ≡ (if yes then 1 else 0) }
-{
-    if yes {
-        return 1;
-    }
-    0
 }
 
 fn channel_line(channel: u8, d: Desk, out: &mut [u8], at: usize) -> usize
     requires { at + 86 ≤ length out.old }
     ensures { (result ≤ at + 86) × Written out.old at (channel_line channel d) out.new result }
 {
-    let counter = d.counter;
-    let seen = as_number(d.seen);
+    let seen = u64::from(d.seen);
     let letter = text::word(b"K", out, at);
     let third = text::numbers(channel as u64, d.held as u64, seen, out, letter);
-    let last = text::number(counter.0 as u64, out, third);
+    let last = text::number(d.counter.0 as u64, out, third);
     text::line_end(out, last)
 }
 
@@ -134,12 +97,8 @@ fn channel_lines(
     ensures { (result ≤ at + 688) × Written out.old at (channel_lines (take n watched) desks) out.new result }
 {
     let mut end = at;
-    let mut i: usize = 0;
-    while i < n {
-        let channel = watched[i];
-        let desk = desks[i];
-        end = channel_line(channel.0, desk, out, end);
-        i += 1;
+    for i in 0..n {
+        end = channel_line(watched[i].0, desks[i], out, end);
     }
     end
 }

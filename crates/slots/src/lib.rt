@@ -5,10 +5,10 @@
 #![tactic(auto)]
 
 ghost use Rattle.std.specs.Prelude.{◌≡◌, true, ◌&&◌};
-ghost use Rattle.state.specs.Slots.{held, need_of};
-ghost use Rattle.state.specs.Decision.{free_sound, slot_sound, slots_sound, no_twins};
+ghost use Rattle.state.specs.Slots.{held, incomplete, need_of};
+ghost use Rattle.state.specs.Decision.{free_sound, slot_sound, slots_sound, twin_in, no_twins};
 
-use packet::{Application, CheckedCount, Count};
+use packet::{Application, Count};
 use state::{Slot, Station};
 
 // A free slot that owns n blocks. One test for four numbers: most slots are free.
@@ -45,7 +45,7 @@ fn held_sound(channels: &[u8], n: u16, x: Slot, need: u64) -> bool
         return false;
     }
     let checked = Count::checked(count.0);
-    let CheckedCount::Good(_) = checked else {
+    let Some(_) = checked else {
         return false;
     };
     n as u64 == need
@@ -62,8 +62,17 @@ fn slot_sound(channels: &[u8], n: u16, x: Slot) -> bool
     held_sound(channels, n, x, need)
 }
 
-// Each slot, with the number of its blocks, and no two incomplete files of one pair: one pass. The slots behind are looked through here, since
-// a call would copy the slots for each file.
+// Whether a slot's file is incomplete, and another of its pair stands behind it.
+fn has_twin(x: Slot, behind: &[Slot]) -> bool
+    ensures { result ≡ (incomplete x && twin_in x behind.now) }
+{
+    x.is_incomplete()
+        && behind
+            .iter()
+            .any(|y| y.is_incomplete_of(x.channel, x.application))
+}
+
+// Each slot, with the number of its blocks, and no two incomplete files of one pair: one pass.
 pub fn slots_sound(
     channels: &[u8],
     counts: [u16; Station::SLOTS],
@@ -71,26 +80,12 @@ pub fn slots_sound(
 ) -> bool
     ensures { result ≡ (slots_sound channels.now counts slots && no_twins slots) }
 {
-    let mut k: usize = 0;
-    while k < Station::SLOTS {
-        let x = slots[k];
-        if !slot_sound(channels, counts[k], x) {
+    for (k, x) in slots.iter().enumerate() {
+        if !slot_sound(channels, counts[k], *x) {
             return false;
         }
-        if x.is_incomplete() {
-            let channel = x.channel;
-            let application = x.application;
-            let mut j = k + 1;
-            while j < Station::SLOTS {
-                let y = slots[j];
-                if y.is_incomplete_of(channel, application) {
-                    return false;
-                }
-                j += 1;
-            }
-            k += 1;
-        } else {
-            k += 1;
+        if has_twin(*x, &slots[k + 1..]) {
+            return false;
         }
     }
     true

@@ -15,14 +15,7 @@ use state::{Head, Slot, Station};
 fn numbers(watched: [Channel; Channel::MOST]) -> [u8; Channel::MOST]
     ensures { result ≡ map number watched }
 {
-    let mut out = [0u8; Channel::MOST];
-    let mut i: usize = 0;
-    while i < Channel::MOST {
-        let c = watched[i];
-        out[i] = c.0;
-        i += 1;
-    }
-    out
+    watched.map(|channel| channel.0)
 }
 
 // Set-up, with the names of the channels watched among eight.

@@ -1,8 +1,8 @@
 -- "Both sides of the line": the cases marked *, in the order of the paper, and what each of them says. Octets are joined by ∷ and end in [];
 -- 0x begins a number in hexadecimal. Assumes nothing.
+use Rattle.refusals.specs.Refusals.{refuse}
 use Rattle.std.specs.Prelude.{◌≡◌, true, List, [], ◌∷◌, ◌++◌, ℕ, ◌/◌, ◌%◌, replicate}
 use Rattle.crc.specs.Crc.{crc_of}
-use Rattle.frame.specs.declared.Examined.TheVariants.{Refused}
 use Rattle.frame.specs.declared.Frame.{Frame}
 use Rattle.frame.specs.declared.Pointer.TheVariants.{Offset, NoStart}
 use Rattle.frame.specs.Kinds.{counter_follows}
@@ -77,7 +77,7 @@ Right (frame-header xs version v spacecraft s channel c) =
     ≡ record { version = v; spacecraft = s; channel = record { 0 = c }; counter = record { 0 = 0 }; pointer = 0 }
 Right (pointer p good) = pointer_meaning p ≡ Offset p
 -- of spacecraft 1, with channel 0 watched
-Right (pointer p refused-by k) = examined_header 1 (record { 0 = 0 } ∷ []) (pointing p) ≡ Refused k
+Right (pointer p refused-by k) = examined_header 1 (record { 0 = 0 } ∷ []) (pointing p) ≡ refuse k
 Right (pointer p no-start) = pointer_meaning p ≡ NoStart
 Right (count a then b follows) = count_follows (record { 0 = a }) (record { 0 = b }) ≡ true
 Right (counter a then b follows) = counter_follows (record { 0 = a }) (record { 0 = b }) ≡ true

@@ -12,7 +12,7 @@ use packet::{Application, Count, Packet};
 
 // A file slot. It is held exactly if a packet was accepted for it; the need follows from the length, and it is complete exactly if as many
 // packets were accepted as it needs blocks. No flag says what these numbers say already.
-#[derive(Clone, Copy)]
+#[derive(Clone, Copy, PartialEq, Eq)]
 pub struct Slot {
     pub channel: Channel,
     pub application: Application,
@@ -56,41 +56,27 @@ impl Slot {
     pub fn is_complete(self) -> bool
         ensures { result ≡ complete self }
     {
-        if self.accepted == 0 {
-            return false;
-        }
-        self.accepted as u64 == self.need()
+        self.is_held() && self.accepted as u64 == self.need()
     }
 
     pub fn is_incomplete(self) -> bool
         ensures { result ≡ incomplete self }
     {
-        if self.accepted == 0 {
-            return false;
-        }
-        self.accepted as u64 != self.need()
+        self.is_held() && self.accepted as u64 != self.need()
     }
 
     // Whether the slot's file is of this channel and application: the application is tried first, since files of one channel are many.
     pub fn is_of(self, channel: Channel, application: Application) -> bool
         ensures { result ≡ of_pair channel application self }
     {
-        let a = self.application;
-        if a.0 != application.0 {
-            return false;
-        }
-        let c = self.channel;
-        c.0 == channel.0
+        self.application == application && self.channel == channel
     }
 
     // Whether the slot has an incomplete file of this channel and application. The pair is tried first: the need takes a division.
     pub fn is_incomplete_of(self, channel: Channel, application: Application) -> bool
         ensures { result ≡ (of_pair channel application self && incomplete self) }
     {
-        if self.is_of(channel, application) {
-            return self.is_incomplete();
-        }
-        false
+        self.is_of(channel, application) && self.is_incomplete()
     }
 }
 
@@ -144,22 +130,19 @@ impl Station {
     pub fn zero() -> Station
         ensures { result ≡ all_zero_state }
     {
-        let counter = Counter(0);
         let desk = Desk {
             held: 0,
             seen: false,
-            counter: counter,
+            counter: Counter(0),
         };
-        let channel = Channel(0);
-        let slots = NO_FILES;
         Station {
             spacecraft: 0,
             channels: 0,
-            watched: [channel; Channel::MOST],
+            watched: [Channel(0); Channel::MOST],
             desks: [desk; Channel::MOST],
             blocks: 0,
             owner: [0; Station::MOST_BLOCKS as usize],
-            slots: slots,
+            slots: NO_FILES,
         }
     }
 
@@ -171,8 +154,8 @@ impl Station {
         Head {
             spacecraft: self.spacecraft,
             channels: self.channels,
-            watched: watched,
-            desks: desks,
+            watched,
+            desks,
             blocks: self.blocks,
         }
     }

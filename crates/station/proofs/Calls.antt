@@ -1,6 +1,9 @@
 -- What each call gives back, read off the definitions once: the first number of its list that applies, and then nothing changes; or 0, and
 -- then what was to be done is done. Assumes nothing.
-use Rattle.std.specs.Prelude.{if◌then◌else◌}
+use Rattle.frame.specs.declared.Accepted.{Accepted}
+use Rattle.refusals.specs.declared.Refusal.{Refusal}
+use Rattle.refusals.specs.Refusals.{refuse}
+use Rattle.std.specs.Prelude.{if◌then◌else◌, Option, Some, None, Result, Ok}
 use mathlib.Core.Path.{◌≡◌, refl, ◌∙◌}
 use mathlib.Core.Bool.{Bool, true, false, not, ◌&&◌, ◌||◌, and-false}
 use mathlib.Core.Logic.{◌↔◌}
@@ -14,14 +17,10 @@ use lib.ListN.{length, take, replicate, length-replicate}
 use Rattle.octets.specs.Number.{part}
 use Rattle.octets.proofs.Lists.{if-map}
 use Rattle.frame.specs.declared.Channel.{Channel}
-use Rattle.frame.specs.declared.Examined.{Examined}
-use Rattle.frame.specs.declared.Examined.TheVariants.{Refused, Good}
 use Rattle.frame.specs.declared.Frame.{Frame}
 use Rattle.frame.specs.declared.Pointer.{Pointer}
 use Rattle.frame.specs.declared.Pointer.TheVariants as pointer
 use Rattle.frame.specs.declared.Pointer.TheVariants.{Offset, NoStart}
-use Rattle.frame.specs.declared.Watch.{Watch}
-use Rattle.frame.specs.declared.Watch.TheVariants.{Desk, NotWatched}
 use Rattle.frame.specs.Kinds.{desk_from, desk_of}
 use Rattle.frame.specs.Header.{derandomised, frame_of, pointer_meaning}
 use Rattle.frame.specs.Refusals.{pointed, watched_by, examined_header, examined}
@@ -38,17 +37,14 @@ use Rattle.room.proofs.Keeps.{refiled-sized, refiled-desks, let_go-refiles, let_
 use Rattle.station.specs.SetUp.{SetUpOutcome, set_up_gives, desks_fit, whole_blocks, fresh_station, set_up}
 use Rattle.station.specs.Files.{is_held, asked, freed, kept, let_go_as, file_let_go, ReadOutcome, read_gives, store_fits, within, read_as, read_out, facts_in, told_as, told_of, told_number}
 use Rattle.station.specs.declared.LetGo.{LetGo}
-use Rattle.station.specs.declared.Asked.{Asked}
-use Rattle.station.specs.declared.Asked.TheVariants as asks
-use Rattle.station.specs.declared.Asked.TheVariants.{Complete, Incomplete}
-use Rattle.station.specs.declared.Told.TheVariants as told
-use Rattle.station.specs.declared.Told.TheVariants.{Known}
+use Rattle.station.specs.declared.Held.{Held}
+use Rattle.station.specs.declared.Held.TheVariants.{Complete, Incomplete}
 use Rattle.station.specs.Frame.{FrameOutcome, frame_gives, admitted, taken, examined_frame, framed}
 use Rattle.octets.specs.Reasons.{Reason, decided, applies}
 use Rattle.station.specs.Answers.{SoundWithMemory, set_up_says, slot_says, let_go_says, read_says, told_says, frame_header_says, frame_says, seat, accepted_as, walked_as}
 use Rattle.octets.specs.Reasons.Reason.{◌when◌}
 use Rattle.station.proofs.Asking.{complete-held}
-use Rattle.octets.proofs.Reasons.{None}
+use Rattle.octets.proofs.Reasons.{NoneApplies}
 use Rattle.station.proofs.Decided.{Outcome, outcome, never}
 use Rattle.station.proofs.Fresh.{few-channels, whole-store, fresh-sized, fresh-sound, fresh-desks}
 
@@ -59,12 +55,12 @@ unfolding set_up
 set_up-is craft channels desks store = refl
 
 -- a slot that is asked for, under what comes of the answer
-asked_is : {A : Type 0} (f : Asked → A) (s : Station) (k : ℕ) → f (asked s k)
-    ≡ decided (slot_says s k []) (if complete (slot_at s k) then f (Complete k) else f (Incomplete k)) (λ (n : ℕ). f (asks.Refused n))
+pub asked_is : {A : Type 0} (f : Result Held Refusal → A) (s : Station) (k : ℕ) → f (asked s k)
+    ≡ decided (slot_says s k []) (if complete (slot_at s k) then f (Ok (Complete k)) else f (Ok (Incomplete k))) (λ (n : ℕ). f (refuse n))
 unfolding asked
 asked_is f s k = simp (if-map f)
 
-if-not : {A : Type 0} (b : Bool) (x y : A) → (if b then x else y) ≡ (if not b then y else x)
+pub if-not : {A : Type 0} (b : Bool) (x y : A) → (if b then x else y) ≡ (if not b then y else x)
 if-not true x y = refl
 if-not false x y = refl
 
@@ -86,15 +82,15 @@ module _ (s : Station) (k : ℕ) where
       let inside = within (octets_of_bits (slot_at s k).bits) offset (length buffer) in
       rw (asked_is (read_as s store offset buffer) s k, if-not fits, if-not (complete (slot_at s k)), if-not inside)
 
-  pub told_is : (store : List ℕ) → told_of s store k ≡ decided (told_says s store k) (Known (facts_in s store k)) told.Refused
+  pub told_is : (store : List ℕ) → told_of s store k ≡ decided (told_says s store k) (Ok (facts_in s store k)) refuse
   unfolding told_of told_as
   told_is store =
       rw (asked_is (told_as s store) s k, if-not (store_fits s.blocks store), if-not (complete (slot_at s k)))
 
 -- a channel has a desk exactly if it is named
-abbrev has_seat : Watch → Bool
-has_seat (Desk i) = true
-has_seat NotWatched = false
+abbrev has_seat : Option ℕ → Bool
+has_seat (Some i) = true
+has_seat None = false
 
 named-seat : (i : ℕ) (ws : List Channel) (c : Channel) → among c.0 (map number ws) ≡ has_seat (desk_from i ws c)
 unfolding among desk_from
@@ -102,29 +98,29 @@ named-seat i [] c = refl
 named-seat i (w ∷ ws) c = by (eqb w.0 c.0) (named-seat (suc i) ws c)
   where
     by : (b : Bool) → among c.0 (map number ws) ≡ has_seat (desk_from (suc i) ws c)
-        → (b || among c.0 (map number ws)) ≡ has_seat (if b then Desk i else desk_from (suc i) ws c)
+        → (b || among c.0 (map number ws)) ≡ has_seat (if b then Some i else desk_from (suc i) ws c)
     by true e = refl
     by false e = e
 
 -- a header that is examined, under what comes of the answer
-module _ {A : Type 0} (g : Examined → A) (h : Frame) (few : h.pointer < 2048) where
+module _ {A : Type 0} (g : Result Accepted Refusal → A) (h : Frame) (few : h.pointer < 2048) where
   pointed-is : (d : ℕ) (m : Pointer) → Means h.pointer m
       → g (pointed d h m)
-      ≡ (if leb 884 h.pointer && leb h.pointer 2046 then g (Refused 9)
-      else g (Good (record { desk = d; counter = h.counter; pointer = m })))
+      ≡ (if leb 884 h.pointer && leb h.pointer 2046 then g (refuse 9)
+      else g (Ok (record { desk = d; counter = h.counter; pointer = m })))
   pointed-is d (Offset q) (same, low) = rw (lt-leb 884 h.pointer low)
   pointed-is d NoStart e = rw (lt-leb h.pointer 2046 (omega arith), and-false)
   pointed-is d pointer.Refused (from, other) = rw (le-leb 884 h.pointer from, le-leb h.pointer 2046 (omega arith))
 
-  watched-is : (w : Watch) → g (watched_by h w)
-      ≡ (if not (has_seat w) then g (Refused 8)
-      else if leb 884 h.pointer && leb h.pointer 2046 then g (Refused 9)
-      else g (Good (record { desk = seat w; counter = h.counter; pointer = pointer_meaning h.pointer })))
-  watched-is (Desk d) = pointed-is d (pointer_meaning h.pointer) (means h.pointer)
-  watched-is NotWatched = refl
+  watched-is : (w : Option ℕ) → g (watched_by h w)
+      ≡ (if not (has_seat w) then g (refuse 8)
+      else if leb 884 h.pointer && leb h.pointer 2046 then g (refuse 9)
+      else g (Ok (record { desk = seat w; counter = h.counter; pointer = pointer_meaning h.pointer })))
+  watched-is (Some d) = pointed-is d (pointer_meaning h.pointer) (means h.pointer)
+  watched-is None = refl
 
   header_is : (s : Station) → g (examined_header s.spacecraft (take s.channels s.watched) h)
-      ≡ decided (frame_header_says s h) (g (Good (accepted_as s h))) (λ (n : ℕ). g (Refused n))
+      ≡ decided (frame_header_says s h) (g (Ok (accepted_as s h))) (λ (n : ℕ). g (refuse n))
   unfolding examined_header desk_of
   header_is s =
       let ws = take s.channels s.watched in
@@ -151,7 +147,7 @@ module _ (s : Station) (k : ℕ) where
   read-outcome store offset buffer =
       rw (read_is s k store offset buffer) (outcome _ (read_says s store k offset (length buffer)) _ _ refl (λ n. refl) refl)
 
-  pub told-outcome : (store : List ℕ) → Outcome told_number (told_says s store k) (Known (facts_in s store k)) told.Refused (told_of s store k)
+  pub told-outcome : (store : List ℕ) → Outcome told_number (told_says s store k) (Ok (facts_in s store k)) refuse (told_of s store k)
   unfolding among
   told-outcome store = rw (told_is s k store) (outcome _ (told_says s store k) _ _ refl (λ n. refl) refl)
 
@@ -209,10 +205,10 @@ set_up-ten craft channels desks store bad = rw (set_up-is craft channels desks s
 
 -- none of the reasons that come first holds of a slot
 asked-exactly : (s : Station) (k : ℕ) (rs : List Reason)
-    → None (slot_says s k rs) ↔ ((is_sound s ≡ true) × (k < 32) × (held (slot_at s k) ≡ true) × None rs)
+    → NoneApplies (slot_says s k rs) ↔ ((is_sound s ≡ true) × (k < 32) × (held (slot_at s k) ≡ true) × NoneApplies rs)
 asked-exactly s k rs = (to, back)
   where
-    to : None (slot_says s k rs) → (is_sound s ≡ true) × (k < 32) × (held (slot_at s k) ≡ true) × None rs
+    to : NoneApplies (slot_says s k rs) → (is_sound s ≡ true) × (k < 32) × (held (slot_at s k) ≡ true) × NoneApplies rs
     to (a, (b, g)) =
         let here = not-false (is_held s k) b in (
           not-false (is_sound s) a,
@@ -221,7 +217,7 @@ asked-exactly s k rs = (to, back)
           g,
         )
 
-    back : (is_sound s ≡ true) × (k < 32) × (held (slot_at s k) ≡ true) × None rs → None (slot_says s k rs)
+    back : (is_sound s ≡ true) × (k < 32) × (held (slot_at s k) ≡ true) × NoneApplies rs → NoneApplies (slot_says s k rs)
     back (sound, low, here, g) = (rw sound, (rw (lt-ltb k 32 low, here), g))
 
 -- what 0 means

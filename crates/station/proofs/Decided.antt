@@ -9,7 +9,7 @@ use borrow.Author.Tests.{eq-eqb, eqb-true, lt-ltb, ltb-true}
 use lib.Dec.{ltb, eqb}
 use Rattle.octets.specs.Reasons.{Reason, decided, numbers, applies}
 use Rattle.octets.specs.Reasons.Reason.{◌when◌}
-use Rattle.octets.proofs.Reasons.{None, First, decided-cases}
+use Rattle.octets.proofs.Reasons.{NoneApplies, First, decided-cases}
 use Rattle.octets.proofs.Reasons.First.{here, later}
 use Rattle.octets.proofs.Tests.{and_left, and_right, and_both}
 use Rattle.state.specs.Decision.{among}
@@ -23,7 +23,7 @@ pub first-applies : {rs : List Reason} {n : ℕ} → First rs n → applies rs n
 first-applies (here {n} e) = rw (eq-eqb n n refl, e)
 first-applies (later e f) = rw (first-applies f, or-true)
 
-first_some : {rs : List Reason} {n : ℕ} → First rs n → None rs → ⊥
+first_some : {rs : List Reason} {n : ℕ} → First rs n → NoneApplies rs → ⊥
 first_some (here e) g = true≢false (sym e ∙ g.0)
 first_some (later e f) g = first_some f g.1
 
@@ -32,7 +32,7 @@ abbrev pub rising : ℕ → List Reason → Bool
 rising l [] = true
 rising l ((n when b) ∷ rs) = ltb l n && rising n rs
 
-none-applies : (rs : List Reason) → None rs → (m : ℕ) → applies rs m ≡ false
+none-applies : (rs : List Reason) → NoneApplies rs → (m : ℕ) → applies rs m ≡ false
 none-applies [] g m = refl
 none-applies ((n when b) ∷ rs) g m = rw (g.0, and-false, none-applies rs g.1 m)
 
@@ -64,7 +64,7 @@ first-lowest (later {n = k} {b = b} {rs = rs} p f) l up m e =
 -- the outcome r of a call with these reasons: d where none applies, else f of the number
 pub record Outcome {A : Type 0} (answer : A → ℕ) (rs : List Reason) (d : A) (f : ℕ → A) (r : A) : Type 0 where
   pub one_of : among (answer r) (0 ∷ numbers rs) ≡ true
-  pub zero : (answer r ≡ 0) ↔ None rs
+  pub zero : (answer r ≡ 0) ↔ NoneApplies rs
   pub done : answer r ≡ 0 → r ≡ d
   -- "Every number but 0 carries no other result and changes nothing"
   pub refused : (answer r ≡ 0 → ⊥) → (r ≡ f (answer r)) × (applies rs (answer r) ≡ true)

@@ -1,5 +1,8 @@
 -- The frame call, case by case: what is lent, the state, the frame's refusals, what a frame that is not refused is walked with, and how few
 -- its events are. Assumes nothing.
+use Rattle.refusals.specs.declared.Refusal.{Refusal}
+use Rattle.refusals.specs.Refusals.{refuse}
+use Rattle.std.specs.Prelude.{Result, Ok, Err}
 use mathlib.Core.Path.{◌≡◌, refl, sym, ap, subst, ◌∙◌}
 use mathlib.Core.Bool.{true, false, not, ◌&&◌}
 use mathlib.Core.List.{List}
@@ -14,8 +17,6 @@ use Rattle.octets.specs.Number.{part}
 use Rattle.octets.proofs.Lists.{if-cases}
 use Rattle.octets.proofs.Tests.{and_left, and_right}
 use Rattle.frame.specs.declared.Accepted.{Accepted}
-use Rattle.frame.specs.declared.Examined.{Examined}
-use Rattle.frame.specs.declared.Examined.TheVariants.{Refused, Good}
 use Rattle.frame.specs.Header.{derandomised, zone_of}
 use Rattle.frame.specs.Refusals.{examined}
 use Rattle.frame.proofs.Answers.{good-size}
@@ -71,16 +72,16 @@ module _ (s : Station) (desks store list : List ℕ) where
     lent-list = leb-true _ _ (and_right (desks_fit s.channels desks && store_fits s.blocks store) (leb 900 (length list)) l)
 
   module _ (f : List ℕ) where
-    pub frame_refused : {n : ℕ} → Refused n ≡ admitted s desks store list f → frame_gives n 0 s desks store list ≡ framed s desks store list f
+    pub frame_refused : {n : ℕ} → refuse n ≡ admitted s desks store list f → frame_gives n 0 s desks store list ≡ framed s desks store list f
     unfolding framed examined_frame
     frame_refused e = ap (examined_frame s desks store list f) e
 
-    pub desk-kept : (i : ℕ) {n : ℕ} → Refused n ≡ admitted s desks store list f
+    pub desk-kept : (i : ℕ) {n : ℕ} → refuse n ≡ admitted s desks store list f
         → frame_gives n 0 (with_desk s i (desk_at s i)) desks store list ≡ framed s desks store list f
     desk-kept i {n} e = ap (λ (t : Station). frame_gives n 0 t desks store list) (desk-same s i) ∙ frame_refused e
 
     -- the refusals, in their order
-    pub refused-lent : lent_right s desks store list ≡ false → Refused 1 ≡ admitted s desks store list f
+    pub refused-lent : lent_right s desks store list ≡ false → refuse 1 ≡ admitted s desks store list f
     unfolding admitted
     refused-lent e = rw e
 
@@ -88,7 +89,7 @@ module _ (s : Station) (desks store list : List ℕ) where
     lent-wrong e = frame_refused (refused-lent e)
 
     module _ (l : lent_right s desks store list ≡ true) where
-      pub refused-state : is_sound s ≡ false → Refused 2 ≡ admitted s desks store list f
+      pub refused-state : is_sound s ≡ false → refuse 2 ≡ admitted s desks store list f
       unfolding admitted
       refused-state e = rw (l, e)
 
@@ -96,7 +97,7 @@ module _ (s : Station) (desks store list : List ℕ) where
       unsound e = frame_refused (refused-state e)
 
       module _ (e : is_sound s ≡ true) where
-        pub refused-desks : desks_held 0 (take s.channels s.desks) desks ≡ false → Refused 2 ≡ admitted s desks store list f
+        pub refused-desks : desks_held 0 (take s.channels s.desks) desks ≡ false → refuse 2 ≡ admitted s desks store list f
         unfolding admitted are_desks_sound
         refused-desks d = rw (l, e, d)
 
@@ -114,11 +115,11 @@ pub record Admits (s : Station) (desks store list f : List ℕ) (a : Accepted) :
   pub lent : lent_right s desks store list ≡ true
   pub sound : is_sound s ≡ true
   pub orderly : are_desks_sound s desks ≡ true
-  pub good : examined s.spacecraft (take s.channels s.watched) f ≡ Good a
+  pub good : examined s.spacecraft (take s.channels s.watched) f ≡ Ok a
 
-abbrev Told : Station → List ℕ → List ℕ → List ℕ → List ℕ → Examined → Type 0
-Told s desks store list f (Refused n) = Unit
-Told s desks store list f (Good a) = Admits s desks store list f a
+abbrev Told : Station → List ℕ → List ℕ → List ℕ → List ℕ → Result Accepted Refusal → Type 0
+Told s desks store list f (Err n) = Unit
+Told s desks store list f (Ok a) = Admits s desks store list f a
 
 module _ (s : Station) (desks store list f : List ℕ) where
   told : Told s desks store list f (admitted s desks store list f)
@@ -131,11 +132,11 @@ module _ (s : Station) (desks store list f : List ℕ) where
       by (not-false _ l) (and_left (is_sound s) (are_desks_sound s desks) both) (and_right (is_sound s) (are_desks_sound s desks) both) _ refl))
     where
       by : lent_right s desks store list ≡ true → is_sound s ≡ true → are_desks_sound s desks ≡ true
-          → (x : Examined) → examined s.spacecraft (take s.channels s.watched) f ≡ x → Told s desks store list f x
-      by l h d (Refused n) e = tt
-      by l h d (Good a) e = record { lent = l; sound = h; orderly = d; good = e }
+          → (x : Result Accepted Refusal) → examined s.spacecraft (take s.channels s.watched) f ≡ x → Told s desks store list f x
+      by l h d (Err n) e = tt
+      by l h d (Ok a) e = record { lent = l; sound = h; orderly = d; good = e }
 
-  pub admits : {x : Examined} {a : Accepted} → x ≡ admitted s desks store list f → x ≡ Good a → Admits s desks store list f a
+  pub admits : {x : Result Accepted Refusal} {a : Accepted} → x ≡ admitted s desks store list f → x ≡ Ok a → Admits s desks store list f a
   admits e g = subst (Told s desks store list f) (sym e ∙ g) told
 
 -- the zone, where the scratch octets are the derandomised frame
@@ -181,7 +182,7 @@ walk-taken s {w} h =
     let k : length w.events ≡ 0 + length w.events = omega arith in
     rw (h.station, h.events, h.desked, h.stored, h.listed, ← k)
 
-pub frame-taken : (s : Station) (desks store list f : List ℕ) {a : Accepted} {zone : List ℕ} {o : FrameOutcome} → Good a ≡ admitted s desks store list f
+pub frame-taken : (s : Station) (desks store list f : List ℕ) {a : Accepted} {zone : List ℕ} {o : FrameOutcome} → Ok a ≡ admitted s desks store list f
     → zone ≡ zone_of (derandomised f) → o ≡ taken s list (walked (channel_at s a.desk) s desks store zone a) → o ≡ framed s desks store list f
 unfolding framed examined_frame
 frame-taken s desks store list f e here q = rw (← e, ← here) q
@@ -195,9 +196,9 @@ module _ (s : Station) (z : Sized s) (desks store list f : List ℕ) where
   unfolding framed examined_frame
   framed-few = by (admitted s desks store list f) refl
     where
-      by : (x : Examined) → x ≡ admitted s desks store list f → Few (examined_frame s desks store list f x)
-      by (Refused n) e = omega arith
-      by (Good a) e = walk-few z (admits s desks store list f e refl)
+      by : (x : Result Accepted Refusal) → x ≡ admitted s desks store list f → Few (examined_frame s desks store list f x)
+      by (Err n) e = omega arith
+      by (Ok a) e = walk-few z (admits s desks store list f e refl)
 
   pub few-told : {n k : ℕ} {s₁ : Station} {desks₁ store₁ list₁ : List ℕ}
       → frame_gives n k s₁ desks₁ store₁ list₁ ≡ framed s desks store list f → k ≤ 300

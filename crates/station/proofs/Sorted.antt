@@ -1,4 +1,5 @@
 -- "sorted by channel": a frame that is not refused goes to the desk of the channel that its header names. Assumes nothing.
+use Rattle.std.specs.Prelude.{Ok}
 use mathlib.Core.Path.{◌≡◌, sym, ap, ◌∙◌}
 use mathlib.Core.List.{List}
 use Prim.Native.Nat.{ℕ, ◌<◌}
@@ -6,7 +7,6 @@ use native.Mathlib.Nat.{lt_of_lt_of_le, min-le_left}
 use lib.ListN.{length, take, length-take, get_or-map}
 use lib.Seq.{get_or-take}
 use Rattle.frame.specs.declared.Accepted.{Accepted}
-use Rattle.frame.specs.declared.Examined.TheVariants.{Good}
 use Rattle.frame.specs.Header.{derandomised, frame_of}
 use Rattle.frame.specs.Refusals.{examined}
 use Rattle.frame.proofs.Answers.{good-header}
@@ -17,7 +17,7 @@ use Rattle.judge.specs.Contract.{Watched}
 use Rattle.station.specs.SetUp.{channel_of}
 use Rattle.station.specs.Frame.{channel_at}
 
-module _ (s : Station) (f : List ℕ) (a : Accepted) (e : examined s.spacecraft (take s.channels s.watched) f ≡ Good a) where
+module _ (s : Station) (f : List ℕ) (a : Accepted) (e : examined s.spacecraft (take s.channels s.watched) f ≡ Ok a) where
   stands : Stands (frame_of (derandomised f)).channel (channel_of 0) (take s.channels s.watched) a.desk
   stands =
       let ws = take s.channels s.watched in

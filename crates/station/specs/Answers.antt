@@ -1,12 +1,10 @@
 -- "What the station says", call by call: the numbers in the order in which they are tried, each with the test that it applies. That each
 -- call gives what is decided so is proved (proofs/Calls.antt). Assumes nothing.
-use Rattle.std.specs.Prelude.{◌≡◌, not, ◌&&◌, List, [], ◌∷◌, ℕ, ◌*◌, leb, eqb, length, take}
+use Rattle.std.specs.Prelude.{◌≡◌, not, ◌&&◌, List, [], ◌∷◌, ℕ, ◌*◌, leb, eqb, length, take, Option, Some, None}
 use Rattle.octets.specs.Reasons.{Reason}
 use Rattle.octets.specs.Reasons.Reason.{◌when◌}
 use Rattle.frame.specs.declared.Accepted.{Accepted}
 use Rattle.frame.specs.declared.Frame.{Frame}
-use Rattle.frame.specs.declared.Watch.{Watch}
-use Rattle.frame.specs.declared.Watch.TheVariants.{Desk, NotWatched}
 use Rattle.frame.specs.Kinds.{desk_of}
 use Rattle.frame.specs.Header.{marker, starts_with, derandomised, frame_of, zone_of, pointer_meaning}
 use Rattle.transport.specs.Length.{octets_of_bits}
@@ -62,9 +60,9 @@ frame_says s desks store list f =
     ∷ frame_header_says s (frame_of (derandomised f))
 
 -- the place of a channel that is watched
-abbrev pub seat : Watch → ℕ
-seat (Desk i) = i
-seat NotWatched = 0
+abbrev pub seat : Option ℕ → ℕ
+seat (Some i) = i
+seat None = 0
 
 -- a frame for which none of these applies: its desk is that of its channel, "in the order named"
 abbrev pub accepted_as : Station → Frame → Accepted

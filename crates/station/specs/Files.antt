@@ -1,5 +1,7 @@
 -- A file read, told of, and let go. Assumes nothing.
-use Rattle.std.specs.Prelude.{Bool, true, false, not, ◌&&◌, List, [], ◌∷◌, ℕ, ◌-◌, ◌*◌, leb, ltb, eqb, length, if◌then◌else◌}
+use Rattle.refusals.specs.declared.Refusal.{Refusal}
+use Rattle.refusals.specs.Refusals.{refuse}
+use Rattle.std.specs.Prelude.{Bool, true, false, not, ◌&&◌, List, [], ◌∷◌, ℕ, ◌-◌, ◌*◌, leb, ltb, eqb, length, if◌then◌else◌, Result, Ok, Err}
 use Rattle.octets.specs.Number.{part}
 use Rattle.facts.specs.declared.Facts.{Facts}
 use Rattle.transport.specs.Length.{transport_of, octets_of_bits}
@@ -11,11 +13,8 @@ use Rattle.room.specs.Move.{let_go}
 use Rattle.room.specs.File.{joined, file_octets}
 use Rattle.station.specs.declared.Answered.{Answered}
 use Rattle.station.specs.declared.LetGo.{LetGo}
-use Rattle.station.specs.declared.Asked.{Asked}
-use Rattle.station.specs.declared.Asked.TheVariants.{Refused, Complete, Incomplete}
-use Rattle.station.specs.declared.Told.{Told}
-use Rattle.station.specs.declared.Told.TheVariants as told
-use Rattle.station.specs.declared.Told.TheVariants.{Known}
+use Rattle.station.specs.declared.Held.{Held}
+use Rattle.station.specs.declared.Held.TheVariants.{Complete, Incomplete}
 
 abbrev pub answered : ℕ → Station → Answered
 answered n s = record { answer = n; station = s }
@@ -25,12 +24,12 @@ abbrev pub is_held : Station → ℕ → Bool
 is_held s k = ltb k 32 && held (slot_at s k)
 
 -- what every call that names a slot asks first: "2: state not sound", then 11; then it is known whether the file is complete
-unfoldable pub asked : Station → ℕ → Asked
+unfoldable pub asked : Station → ℕ → Result Held Refusal
 asked s k =
-    if not (is_sound s) then Refused 2
-    else if not (is_held s k) then Refused 11
-    else if complete (slot_at s k) then Complete k
-    else Incomplete k
+    if not (is_sound s) then refuse 2
+    else if not (is_held s k) then refuse 11
+    else if complete (slot_at s k) then Ok (Complete k)
+    else Ok (Incomplete k)
 
 -- the file of slot k, complete or not, let go: its slot and blocks are free
 abbrev pub freed : Station → ℕ → Bool → LetGo
@@ -41,10 +40,10 @@ abbrev pub kept : Station → ℕ → LetGo
 kept s n = record { answer = n; complete = false; station = s }
 
 -- "one operation that frees any held file and reports whether it was complete" (02, 3/14)
-unfoldable pub let_go_as : Station → Asked → LetGo
-let_go_as s (Refused n) = kept s n
-let_go_as s (Complete k) = freed s k true
-let_go_as s (Incomplete k) = freed s k false
+unfoldable pub let_go_as : Station → Result Held Refusal → LetGo
+let_go_as s (Err n) = kept s n.0
+let_go_as s (Ok (Complete k)) = freed s k true
+let_go_as s (Ok (Incomplete k)) = freed s k false
 
 unfoldable pub file_let_go : Station → ℕ → LetGo
 file_let_go s k = let_go_as s (asked s k)
@@ -67,10 +66,10 @@ within size offset n = leb offset size && leb n (size - offset)
 
 -- "12: read .. of an incomplete file" ("12 stays for reads": 02, 3/14); "14: read passes the file's end"; "A read copies file octets from a
 -- given offset .. to fill a lent buffer"
-unfoldable pub read_as : Station → List ℕ → ℕ → List ℕ → Asked → ReadOutcome
-read_as s store offset buffer (Refused n) = read_gives n buffer
-read_as s store offset buffer (Incomplete k) = read_gives 12 buffer
-read_as s store offset buffer (Complete k) =
+unfoldable pub read_as : Station → List ℕ → ℕ → List ℕ → Result Held Refusal → ReadOutcome
+read_as s store offset buffer (Err n) = read_gives n.0 buffer
+read_as s store offset buffer (Ok (Incomplete k)) = read_gives 12 buffer
+read_as s store offset buffer (Ok (Complete k)) =
     if within (octets_of_bits (slot_at s k).bits) offset (length buffer)
     then read_gives 0 (part offset (length buffer) (file_octets s store k))
     else read_gives 14 buffer
@@ -95,21 +94,21 @@ facts_in s store k =
     }
 
 -- the facts of a complete file; an incomplete one is refused as a read of it is: "12: read .. of an incomplete file"
-unfoldable pub told_as : Station → List ℕ → Asked → Told
-told_as s store (Refused n) = told.Refused n
-told_as s store (Incomplete k) = told.Refused 12
-told_as s store (Complete k) = Known (facts_in s store k)
+unfoldable pub told_as : Station → List ℕ → Result Held Refusal → Result Facts Refusal
+told_as s store (Err n) = Err n
+told_as s store (Ok (Incomplete k)) = refuse 12
+told_as s store (Ok (Complete k)) = Ok (facts_in s store k)
 
 -- it is lent the store, as a read is; state and store stay, for they are taken by value and lent for reading
-unfoldable pub told_of : Station → List ℕ → ℕ → Told
-told_of s store k = if store_fits s.blocks store then told_as s store (asked s k) else told.Refused 1
+unfoldable pub told_of : Station → List ℕ → ℕ → Result Facts Refusal
+told_of s store k = if store_fits s.blocks store then told_as s store (asked s k) else refuse 1
 
 -- "a definition gives this paper's number and values for each of the enum's cases": the number
-abbrev pub told_number : Told → ℕ
-told_number (told.Refused n) = n
-told_number (Known f) = 0
+abbrev pub told_number : Result Facts Refusal → ℕ
+told_number (Err n) = n.0
+told_number (Ok f) = 0
 
 -- and the values: "Every number but 0 carries no other result"
-abbrev pub told_values : Told → List ℕ
-told_values (told.Refused n) = []
-told_values (Known f) = f.channel.0 ∷ f.application.0 ∷ f.counter ∷ f.bits ∷ []
+abbrev pub told_values : Result Facts Refusal → List ℕ
+told_values (Err n) = []
+told_values (Ok f) = f.channel.0 ∷ f.application.0 ∷ f.counter ∷ f.bits ∷ []

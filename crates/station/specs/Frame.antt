@@ -1,9 +1,10 @@
 -- The frame call. Assumes nothing.
-use Rattle.std.specs.Prelude.{Bool, not, ◌&&◌, List, ℕ, leb, length, get_or, take, if◌then◌else◌}
+use Rattle.frame.specs.declared.Accepted.{Accepted}
+use Rattle.refusals.specs.declared.Refusal.{Refusal}
+use Rattle.refusals.specs.Refusals.{refuse}
+use Rattle.std.specs.Prelude.{Bool, not, ◌&&◌, List, ℕ, leb, length, get_or, take, if◌then◌else◌, Result, Ok, Err}
 use Rattle.octets.specs.Buffer.{put}
 use Rattle.frame.specs.declared.Channel.{Channel}
-use Rattle.frame.specs.declared.Examined.{Examined}
-use Rattle.frame.specs.declared.Examined.TheVariants.{Refused, Good}
 use Rattle.frame.specs.Header.{derandomised, zone_of}
 use Rattle.frame.specs.Refusals.{examined}
 use Rattle.state.specs.declared.Station.{Station}
@@ -35,10 +36,10 @@ abbrev pub channel_at : Station → ℕ → Channel
 channel_at s i = get_or s.watched i (channel_of 0)
 
 -- refusals 1 to 9: "The lowest number that applies is given"
-unfoldable pub admitted : Station → List ℕ → List ℕ → List ℕ → List ℕ → Examined
+unfoldable pub admitted : Station → List ℕ → List ℕ → List ℕ → List ℕ → Result Accepted Refusal
 admitted s desks store list f =
-    if not (lent_right s desks store list) then Refused 1
-    else if not (is_sound s && are_desks_sound s desks) then Refused 2
+    if not (lent_right s desks store list) then refuse 1
+    else if not (is_sound s && are_desks_sound s desks) then refuse 2
     else examined s.spacecraft (take s.channels s.watched) f
 
 -- "After 0 the events fill the list from its start and the rest of it stays."
@@ -46,9 +47,9 @@ abbrev pub taken : Station → List ℕ → Walked → FrameOutcome
 taken s list w = frame_gives 0 (length w.events) w.station w.desks w.store (put list 0 (flat w.events))
 
 -- "Every number but 0 carries no other result and changes nothing"
-unfoldable pub examined_frame : Station → List ℕ → List ℕ → List ℕ → List ℕ → Examined → FrameOutcome
-examined_frame s desks store list f (Refused n) = frame_gives n 0 s desks store list
-examined_frame s desks store list f (Good a) =
+unfoldable pub examined_frame : Station → List ℕ → List ℕ → List ℕ → List ℕ → Result Accepted Refusal → FrameOutcome
+examined_frame s desks store list f (Err n) = frame_gives n.0 0 s desks store list
+examined_frame s desks store list f (Ok a) =
     taken s list (walked (channel_at s a.desk) s desks store (zone_of (derandomised f)) a)
 
 unfoldable pub framed : Station → List ℕ → List ℕ → List ℕ → List ℕ → FrameOutcome

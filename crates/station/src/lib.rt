@@ -10,8 +10,7 @@ ghost use Rattle.state.specs.Decision.{good_channels};
 ghost use Rattle.station.specs.SetUp.{set_up_gives, whole_blocks, channel_of, fresh_station, set_up};
 ghost use Rattle.station.specs.Files.{answered, store_fits};
 
-use facts::Facts;
-use frame::{Channel, CheckedChannel};
+use frame::Channel;
 use state::{Desk, Station};
 use transport::Transport;
 
@@ -30,28 +29,17 @@ pub struct LetGo {
     pub station: Station,
 }
 
-// What is known of a slot that a call names.
+// The slot of a held file that a call names, and what is known of the file.
 #[derive(Clone, Copy)]
-pub enum Asked {
-    Refused(u8),
+pub enum Held {
     Complete(usize),
     Incomplete(usize),
-}
-
-// What a call tells of the file in a slot: a number of the paper, or what is known of it.
-#[derive(Clone, Copy)]
-pub enum Told {
-    Refused(u8),
-    Known(Facts),
 }
 
 fn say(answer: u8, station: Station) -> Answered
     ensures { result ≡ answered answer station }
 {
-    Answered {
-        answer: answer,
-        station: station,
-    }
+    Answered { answer, station }
 }
 
 // The channels watched, in the order named. None of them is bad: that was seen to before.
@@ -59,16 +47,13 @@ fn watch(channels: &[u8]) -> [Channel; Channel::MOST]
     requires { good_channels channels.now ≡ true }
     ensures { result ≡ map channel_of channels.now ++ replicate (8 - length channels.now) (channel_of 0) }
 {
-    let none = Channel(0);
-    let mut watched = [none; Channel::MOST];
-    let mut i: usize = 0;
-    while i < channels.len() {
-        let checked = Channel::checked(channels[i]);
-        let CheckedChannel::Good(channel) = checked else {
+    let mut watched = [Channel(0); Channel::MOST];
+    for (i, n) in channels.iter().enumerate() {
+        let checked = Channel::checked(*n);
+        let Some(channel) = checked else {
             return watched;
         };
         watched[i] = channel;
-        i += 1;
     }
     watched
 }

@@ -34,10 +34,6 @@ module _ (k : ℕ) (w : List ℕ) where
   unfolding holding
   octets-holding = refl
 
-  pub size-holding : length w ≤ 1024 → length (holding k w).octets ≡ 1024
-  size-holding l =
-      rw octets-holding (length-append w (replicate (1024 - length w) 0) ∙ omega (arith, length-replicate {A = ℕ} (1024 - length w) 0))
-
   pub k-holding : (holding k w).k ≡ k
   unfolding holding
   k-holding = refl

@@ -1,6 +1,6 @@
 -- The search goes by stretches, and passes over a quiet one: in a marker with at most three wrong bits one octet at least is right. Assumes nothing.
 use mathlib.Core.Path.{◌≡◌, refl, sym, ap, ◌∙◌}
-use mathlib.Core.Bool.{Bool, true, false, not, ◌&&◌, ◌||◌, and-true, true≢false}
+use mathlib.Core.Bool.{Bool, true, false, not, ◌&&◌, ◌||◌, and-true, or_assoc, true≢false}
 use mathlib.Core.List.{List, [], ◌∷◌, ◌++◌}
 use Prim.Native.Nat.{ℕ, suc, ◌+◌, ◌-◌, ◌*◌, ◌%◌, ◌^◌, ◌≤◌, ◌<◌}
 use native.Mathlib.Nat.{add-zero}
@@ -13,7 +13,7 @@ use lib.Dec.{eqb}
 use lib.ListN.{length, take, drop, get_or, length-drop, take-append-drop, drop_of_length-le}
 use lib.Seq.{drop-cons, drop-drop, take_all, take-take}
 use Rattle.octets.specs.Number.{Octets, part, number, number_at}
-use Rattle.octets.proofs.Lists.{whole_part, whole-rest, part-part}
+use Rattle.octets.proofs.Lists.{whole_part, part-part}
 use Rattle.octets.proofs.Numbers.{octets-part}
 use Rattle.octets.proofs.Tests.{and_left, and_right}
 use Rattle.stream.specs.declared.Sought.{Sought}
@@ -26,17 +26,16 @@ use Rattle.stream.proofs.Places.{wrong-octets, no-wrong}
 
 -- ---- whether octets are quiet: the loop
 
-turned : (z a b q : Bool) → (not z && (not (a || b) && q)) ≡ (not ((z || a) || b) && q)
-turned true a b q = refl
-turned false true b q = refl
-turned false false b q = refl
+turned : (z a b c d q : Bool) → (not z && (not (a || (b || (c || d))) && q)) ≡ (not (z || (((a || b) || c) || d)) && q)
+turned true a b c d q = refl
+turned false a b c d q = rw (or_assoc (a || b) c d, or_assoc a b (c || d))
 
 module _ (s : List ℕ) (goal any : Bool) (i : ℕ) (e : goal ≡ (not any && quiet (drop i s))) where
   pub quiet-more : i < length s
-      → goal ≡ (not ((any || eqb (get_or s i 0) 0x1a) || (eqb (get_or s i 0) 0xcf || (eqb (get_or s i 0) 0xfc || eqb (get_or s i 0) 0x1d))) && quiet (drop (i + 1) s))
+      → goal ≡ (not (any || (((eqb (get_or s i 0) 0x1a || eqb (get_or s i 0) 0xcf) || eqb (get_or s i 0) 0xfc) || eqb (get_or s i 0) 0x1d)) && quiet (drop (i + 1) s))
   unfolding quiet
   quiet-more h =
-      e ∙ rw (drop-cons s i 0 h, add-one) (turned any (eqb (get_or s i 0) 0x1a) (eqb (get_or s i 0) 0xcf || (eqb (get_or s i 0) 0xfc || eqb (get_or s i 0) 0x1d)) (quiet (drop (suc i) s)))
+      e ∙ rw (drop-cons s i 0 h, add-one) (turned any (eqb (get_or s i 0) 0x1a) (eqb (get_or s i 0) 0xcf) (eqb (get_or s i 0) 0xfc) (eqb (get_or s i 0) 0x1d) (quiet (drop (suc i) s)))
 
   pub quiet-end : length s ≤ i → not any ≡ goal
   unfolding quiet
@@ -75,9 +74,6 @@ module _ (xs : List ℕ) (k i v : ℕ) {goal r : Sought} (e : goal ≡ sought_in
 
     pub stretch-more : (w : ℕ) → r ≡ Nowhere w → goal ≡ sought_in k (i + n) w (drop (i + n) xs)
     stretch-more w d = stretched ∙ ap (onward k (i + n) (drop (i + n) xs)) d
-
-  pub stretch-left : r ≡ sought_in k i v (part i (length xs - i) xs) → r ≡ goal
-  stretch-left q = q ∙ ap (sought_in k i v) (whole-rest xs i) ∙ sym e
 
 -- ---- a quiet stretch
 
@@ -177,11 +173,6 @@ module _ (k i v : ℕ) (h : k ≤ 3) where
 
 -- the same of 16 octets of a portion
 module _ (xs : List ℕ) (k from v : ℕ) (h : k ≤ 3) (l : from + 16 ≤ length xs) where
-  pub scanned : (r : Sought) → r ≡ sought_in k from v (part from (from + 16 - from) xs) → r ≡ sought_in k from v (part from 16 xs)
-  scanned r q =
-      let n : from + 16 - from ≡ 16 = omega arith in
-      q ∙ ap (λ (m : ℕ). sought_in k from v (part from m xs)) n
-
   first_three : take 3 (part from 16 xs) ≡ part from (from + 3 - from) xs
   first_three =
       let n : from + 3 - from ≡ 3 = omega arith in

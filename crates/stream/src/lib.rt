@@ -51,7 +51,7 @@ pub fn begin(k: u8) -> Begun
             answer: 0,
             hunter: Hunter {
                 begun: true,
-                k: k,
+                k,
                 waiting: 0,
                 octets: [0; 1024],
             },
@@ -72,7 +72,7 @@ pub fn begin(k: u8) -> Begun
 pub fn is_near(v: u32, k: u8) -> bool
     ensures { result ≡ near k v }
 {
-    u32::count_ones(v ^ MARKER) <= k as u32
+    (v ^ MARKER).count_ones() <= k as u32
 }
 
 // Where the first marker ends, with its four octets; or the last octets seen.
@@ -87,14 +87,12 @@ fn scan(portion: &[u8], from: usize, to: usize, v: u32, k: u8) -> Sought
     requires { (from ≤ to) × (to ≤ length portion.now) }
     ensures { result ≡ sought_in k from v (part from (to - from) portion.now) }
 {
-    let mut i = from;
     let mut four = v;
-    while i < to {
+    for i in from..to {
         four = (four << 8) + portion[i] as u32;
         if is_near(four, k) {
             return Sought::At(i + 1, four);
         }
-        i += 1;
     }
     Sought::Nowhere(four)
 }
@@ -105,11 +103,8 @@ fn is_quiet(s: &[u8]) -> bool
     ensures { result ≡ quiet s.now }
 {
     let mut any = false;
-    let mut i: usize = 0;
-    while i < s.len() {
-        let x = s[i];
-        any = (any | (x == 0x1A)) | ((x == 0xCF) | ((x == 0xFC) | (x == 0x1D)));
-        i += 1;
+    for &x in s {
+        any |= (x == 0x1A) | (x == 0xCF) | (x == 0xFC) | (x == 0x1D);
     }
     !any
 }
@@ -127,8 +122,7 @@ fn leap(portion: &[u8], from: usize, v: u32, k: u8) -> Sought
     if !is_quiet(&portion[from..to]) {
         return scan(portion, from, to, v, k);
     }
-    let s = scan(portion, from, from + 3, v, k);
-    match s {
+    match scan(portion, from, from + 3, v, k) {
         Sought::At(next, four) => Sought::At(next, four),
         Sought::Nowhere(_) => Sought::Nowhere(octets::u32_at(portion, to - 4)),
     }
@@ -142,14 +136,9 @@ pub fn seek(portion: &[u8], from: usize, v: u32, k: u8) -> Sought
     let mut i = from;
     let mut four = v;
     while STRETCH <= portion.len() - i {
-        let s = leap(portion, i, four, k);
-        match s {
-            Sought::At(next, found) => {
-                return Sought::At(next, found);
-            }
-            Sought::Nowhere(last) => {
-                four = last;
-            }
+        match leap(portion, i, four, k) {
+            Sought::At(next, found) => return Sought::At(next, found),
+            Sought::Nowhere(last) => four = last,
         }
         i += STRETCH;
     }

@@ -50,13 +50,12 @@ done {after = after} {end = end} g = record { holds = sym (put-nil after end) �
 
 -- the digits of the first i octets were written
 pub record Spelling (s before : List ℕ) (at : ℕ) (out : List ℕ) (end i : ℕ) : Type 0 where
-  pub within : i ≤ length s
   pub place : end ≡ at + 2 * i
   pub room : length out ≡ length before
   pub gives : Writing before at (in_hex s) out end (in_hex (drop i s))
 
 pub spelling-none : (s before : List ℕ) (at : ℕ) → Spelling s before at before at 0
-spelling-none s before at = record { within = omega arith; place = omega arith; room = refl; gives = begun before (in_hex s) at }
+spelling-none s before at = record { place = omega arith; room = refl; gives = begun before (in_hex s) at }
 
 module _ {s before out : List ℕ} {at end i : ℕ} (g : Spelling s before at out end i) where
   pub spelling-more : (high low : ℕ) → i < length s → get_or s i 0 < 256 → high ≡ hex_digit_ascii (get_or s i 0 / 16) → low ≡ hex_digit_ascii (get_or s i 0 % 16)
@@ -68,7 +67,6 @@ module _ {s before out : List ℕ} {at end i : ℕ} (g : Spelling s before at ou
       let octets : in_hex (drop i s) ≡ (high ∷ low ∷ []) ++ in_hex (drop (i + 1) s) = ap in_hex (drop-cons s i 0 h) ∙ rw (add-one i) (ap (λ (ds : List ℕ). ds ++ in_hex (drop (suc i) s)) two) in
       let here : Written out end (high ∷ low ∷ []) (set (set out end high) (end + 1) low) (end + 2) = record { holds = rw (add-one end); ends = refl } in
       record {
-        within = omega arith;
         place = omega (arith, g.place);
         room = simp length-set g.room;
         gives = went_on (rw octets at g.gives) here;

@@ -102,13 +102,10 @@ pub fn hex_octets(s: &[u8], out: &mut [u8], at: usize) -> usize
     ensures { (result ≡ at + 2 * length s.now) × Written out.old at (in_hex s.now) out.new result }
 {
     let mut end = at;
-    let mut i: usize = 0;
-    while i < s.len() {
-        let x = s[i];
-        out[end] = digit(x / 16);
-        out[end + 1] = digit(x % 16);
+    for x in s {
+        out[end] = digit(*x / 16);
+        out[end + 1] = digit(*x % 16);
         end += 2;
-        i += 1;
     }
     end
 }

@@ -1,5 +1,5 @@
 -- What the data of a packet begins, once it is long enough to say. Assumes nothing.
-use Rattle.std.specs.Prelude.{if◌then◌else◌}
+use Rattle.std.specs.Prelude.{if◌then◌else◌, Some, None}
 use mathlib.Core.Path.{◌≡◌, refl}
 use mathlib.Core.Bool.{Bool, true, false, ◌&&◌, ◌||◌}
 use mathlib.Core.List.{List}
@@ -7,7 +7,6 @@ use Prim.Native.Nat.{ℕ, ◌≤◌}
 use borrow.Author.Tests.{le-ltb}
 use lib.Dec.{eqb}
 use lib.ListN.{length}
-use Rattle.transport.specs.declared.Begun.TheVariants.{Wrong, Right}
 use Rattle.transport.specs.declared.Transport.{Transport}
 use Rattle.transport.specs.Length.{transport_of, good_length}
 use Rattle.transport.specs.Shape.{first_fits, whole_fits, begun_of}
@@ -17,7 +16,7 @@ either true b x y = refl
 either false b x y = refl
 
 pub length-wrong : (flags : ℕ) (d : List ℕ) {t : Transport} → 10 ≤ length d → t ≡ transport_of d
-    → good_length t.bits ≡ false → Wrong ≡ begun_of flags d
+    → good_length t.bits ≡ false → None ≡ begun_of flags d
 unfolding begun_of
 length-wrong flags d long is bad = rw (le-ltb _ _ long, ← is, bad)
 
@@ -29,6 +28,6 @@ pub record LengthRight (d : List ℕ) (t : Transport) : Type 0 where
 
 pub shape-decides : (flags : ℕ) {d : List ℕ} {t : Transport} → LengthRight d t
     → (shape : Bool) → shape ≡ (eqb flags 1 && first_fits (length d) t.bits || eqb flags 3 && whole_fits (length d) t.bits)
-    → (if shape then Right t else Wrong) ≡ begun_of flags d
+    → (if shape then Some t else None) ≡ begun_of flags d
 unfolding begun_of
 shape-decides flags d shape e = rw (le-ltb _ _ d.long, ← d.is, d.good, e, either)

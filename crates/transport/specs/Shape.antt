@@ -1,9 +1,8 @@
 -- The shapes of a file's packets, by their sequence flags ("Packets", the two rules for a file). Assumes nothing.
-use Rattle.std.specs.Prelude.{Bool, false, not, ◌&&◌, List, ℕ, ◌+◌, leb, ltb, eqb, length, if◌then◌else◌}
+use Rattle.transport.specs.declared.Transport.{Transport}
+use Rattle.std.specs.Prelude.{Bool, false, not, ◌&&◌, List, ℕ, ◌+◌, leb, ltb, eqb, length, if◌then◌else◌, Option, Some, None}
 use Rattle.packet.specs.declared.Count.{Count}
 use Rattle.packet.specs.Kinds.{count_follows}
-use Rattle.transport.specs.declared.Begun.{Begun}
-use Rattle.transport.specs.declared.Begun.TheVariants.{Wrong, Right}
 use Rattle.transport.specs.Length.{transport_of, good_length, transport_size, need, rest}
 
 -- n octets of data in a packet of a file of length L, of which p packets were accepted, the last with the count `last`
@@ -34,10 +33,10 @@ fits flags n L p last c =
     else false
 
 -- "Event 7 if the data is under 10 octets, the 64-bit bit length L .. is 0 .., or the shape is wrong." (01; 02, 2/14)
-unfoldable pub begun_of : ℕ → List ℕ → Begun
+unfoldable pub begun_of : ℕ → List ℕ → Option Transport
 begun_of flags d =
-    if ltb (length d) 10 then Wrong
-    else if not (good_length (transport_of d).bits) then Wrong
-    else if eqb flags 1 && first_fits (length d) (transport_of d).bits then Right (transport_of d)
-    else if eqb flags 3 && whole_fits (length d) (transport_of d).bits then Right (transport_of d)
-    else Wrong
+    if ltb (length d) 10 then None
+    else if not (good_length (transport_of d).bits) then None
+    else if eqb flags 1 && first_fits (length d) (transport_of d).bits then Some (transport_of d)
+    else if eqb flags 3 && whole_fits (length d) (transport_of d).bits then Some (transport_of d)
+    else None

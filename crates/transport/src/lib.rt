@@ -73,92 +73,55 @@ pub fn rest(bits: u64) -> u64
 fn first_fits(n: usize, bits: u64) -> bool
     ensures { result ≡ first_fits n bits }
 {
-    if n != Transport::BLOCK {
-        return false;
-    }
-    2 <= need(bits)
+    n == Transport::BLOCK && 2 <= need(bits)
 }
 
 fn whole_fits(n: usize, bits: u64) -> bool
     ensures { result ≡ whole_fits n bits }
 {
-    if n as u64 != transport_size(bits) {
-        return false;
-    }
-    need(bits) == 1
+    n as u64 == transport_size(bits) && need(bits) == 1
 }
 
 fn middle_fits(n: usize, bits: u64, accepted: u16, last: Count, count: Count) -> bool
     ensures { result ≡ middle_fits n bits accepted last count }
 {
-    if !count.follows(last) {
-        return false;
-    }
-    if n != Transport::BLOCK {
-        return false;
-    }
-    accepted as u64 + 1 != need(bits)
+    count.follows(last) && n == Transport::BLOCK && accepted as u64 + 1 != need(bits)
 }
 
 fn last_fits(n: usize, bits: u64, accepted: u16, last: Count, count: Count) -> bool
     ensures { result ≡ last_fits n bits accepted last count }
 {
-    if !count.follows(last) {
-        return false;
-    }
-    if accepted as u64 + 1 != need(bits) {
-        return false;
-    }
-    n as u64 == rest(bits)
+    count.follows(last) && accepted as u64 + 1 == need(bits) && n as u64 == rest(bits)
 }
 
 // Whether n octets of data are the right shape for a packet with these flags, of a file of this length, after so many packets accepted.
 pub fn fits(flags: u8, n: usize, bits: u64, accepted: u16, last: Count, count: Count) -> bool
     ensures { result ≡ fits_of flags n bits accepted last count }
 {
-    if flags == Packet::FIRST {
-        return first_fits(n, bits);
+    match flags {
+        Packet::FIRST => first_fits(n, bits),
+        Packet::WHOLE => whole_fits(n, bits),
+        Packet::MIDDLE => middle_fits(n, bits, accepted, last, count),
+        Packet::LAST => last_fits(n, bits, accepted, last, count),
+        _ => false,
     }
-    if flags == Packet::WHOLE {
-        return whole_fits(n, bits);
-    }
-    if flags == Packet::MIDDLE {
-        return middle_fits(n, bits, accepted, last, count);
-    }
-    if flags == Packet::LAST {
-        return last_fits(n, bits, accepted, last, count);
-    }
-    false
 }
 
-// What the data of a packet with flags 1 or 3 begins: nothing right, or a file with this transport header.
-#[derive(Clone, Copy)]
-pub enum Begun {
-    Wrong,
-    Right(Transport),
-}
-
-pub fn begin(flags: u8, data: &[u8]) -> Begun
+// What the data of a packet with flags 1 or 3 begins: a file with this transport header, or nothing right.
+pub fn begin(flags: u8, data: &[u8]) -> Option<Transport>
     ensures { result ≡ begun_of flags «data».now }
 {
     if data.len() < Transport::HEADER {
-        return Begun::Wrong;
+        return None;
     }
     let t = Transport::read(data);
     if !good_length(t.bits) {
-        return Begun::Wrong;
+        return None;
     }
-    if flags == Packet::FIRST {
-        if first_fits(data.len(), t.bits) {
-            return Begun::Right(t);
-        }
-        return Begun::Wrong;
-    }
-    if flags == Packet::WHOLE {
-        if whole_fits(data.len(), t.bits) {
-            return Begun::Right(t);
-        }
-        return Begun::Wrong;
-    }
-    Begun::Wrong
+    let shaped = match flags {
+        Packet::FIRST => first_fits(data.len(), t.bits),
+        Packet::WHOLE => whole_fits(data.len(), t.bits),
+        _ => false,
+    };
+    shaped.then_some(t)
 }

@@ -4,16 +4,15 @@
 // ends; each command changes state, desks and store as the crate `drive` has it, by the station's own definitions.
 #![tactic(auto)]
 
-ghost use Rattle.std.specs.Prelude.{◌≡◌, ◌≤◌, length, take};
+ghost use Rattle.std.specs.Prelude.{◌≡◌, ◌≤◌, Some, length, take};
 ghost use Rattle.octets.specs.Buffer.{put};
 ghost use Rattle.lines.specs.Lines.{end_line};
-ghost use Rattle.script.specs.declared.Payload.TheVariants.{Octets};
 ghost use Rattle.script.specs.Script.{payload_of};
 ghost use Rattle.script.specs.Memory.{memory};
 ghost use Rattle.drive.specs.Calls.{carried_out};
 ghost use Rattle.trial.specs.Fetch.{Fetches};
 
-use script::{Command, Payload, Run};
+use script::{Command, Run};
 use state::Station;
 use std::io::{Stdin, Stdout};
 
@@ -67,19 +66,14 @@ fn fetch(input: Stdin, payload: &mut [u8]) -> Fetched
         return Fetched::Unused(got as u64);
     }
     let x = Command::read(&head);
-    let p = x.payload();
-    match p {
-        Payload::Refused => {
-            return Fetched::Unused(16 + rest(input));
-        }
-        Payload::Octets(k) => {
-            let came = pipes::read_full(input, &mut payload[0..k]);
-            if came < k {
-                return Fetched::Unused(16 + came as u64);
-            }
-            return Fetched::Octets(x, k);
-        }
+    let Some(k) = x.payload() else {
+        return Fetched::Unused(16 + rest(input));
+    };
+    let came = pipes::read_full(input, &mut payload[..k]);
+    if came < k {
+        return Fetched::Unused(16 + came as u64);
     }
+    Fetched::Octets(x, k)
 }
 
 // One command carried out, whose payload is the first k octets of a buffer, and its text printed.
@@ -94,13 +88,12 @@ fn obey(
     out: &mut [u8],
 ) -> Run
     requires desks_in_bounds { (w.desks ≤ length desks.old) × (w.store ≤ length store.old) × (length out.old ≡ 90844) }
-    requires x_value { (payload_of x ≡ Octets k) × (k ≤ length payload.now) }
+    requires x_value { (payload_of x ≡ Some k) × (k ≤ length payload.now) }
     ensures store_after { memory result desks.new store.new ≡ carried_out x (take k payload.now) (memory w desks.old store.old) }
     ensures desks_in_bounds_2 { (result.desks ≤ length desks.old) × (result.store ≤ length store.old) }
 {
-    let r = drive::carry_out(w, x, &payload[0..k], desks, store, out);
-    let last = r.end;
-    pipes::write_all(&mut output, &out[0..last]);
+    let r = drive::carry_out(w, x, &payload[..k], desks, store, out);
+    pipes::write_all(&mut output, &out[..r.end]);
     r
 }
 
@@ -119,17 +112,14 @@ fn follow(input: Stdin, output: Stdout, desks: &mut [u8], store: &mut [u8], out:
     requires { length out.old ≡ 90844 }
 {
     let mut payload = [0u8; PAYLOAD];
-    let zero = Station::zero();
     let mut w = Run {
-        station: zero,
+        station: Station::zero(),
         desks: 0,
         store: 0,
         end: 0,
     };
-    let mut n: u64 = 0;
-    while n < u64::MAX {
-        let f = fetch(input, &mut payload);
-        match f {
+    for n in 0..u64::MAX {
+        match fetch(input, &mut payload) {
             Fetched::Unused(m) => {
                 end(output, n, m, out);
                 return;
@@ -138,7 +128,6 @@ fn follow(input: Stdin, output: Stdout, desks: &mut [u8], store: &mut [u8], out:
                 w = obey(output, w, x, &payload, k, desks, store, out);
             }
         }
-        n += 1;
     }
 }
 

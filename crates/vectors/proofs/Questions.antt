@@ -1,7 +1,7 @@
 -- The three forms that a line can have behind its letter. Assumes nothing.
+use Rattle.std.specs.Prelude.{Some, None}
 use mathlib.Core.Path.{◌≡◌, refl, sym, ap, ◌∙◌}
 use mathlib.Core.List.{List, [], ◌∷◌}
-use mathlib.Core.Option.{none, some}
 use Prim.Native.Nat.{ℕ, ◌-◌, ◌<◌}
 use native.Mathlib.Omega.{arith}
 use borrow.Author.Tests.{eq-eqb, ne_eqb}
@@ -10,13 +10,13 @@ use Rattle.octets.proofs.Lists.{whole-rest}
 use Rattle.vectors.specs.Digits.{octets_of}
 use Rattle.vectors.specs.Question.{question_of}
 
-pub letter-alone : (line : List ℕ) → length line ≡ 1 → some [] ≡ question_of line
+pub letter-alone : (line : List ℕ) → length line ≡ 1 → Some [] ≡ question_of line
 unfolding question_of
 letter-alone [] h = absurd (omega (arith, h))
 letter-alone (x ∷ []) h = refl
 letter-alone (x ∷ s ∷ ds) h = absurd (omega (arith, h))
 
-pub no-space : (line : List ℕ) → 1 < length line → (get_or line 1 0 ≡ 0x20 → ⊥) → none ≡ question_of line
+pub no-space : (line : List ℕ) → 1 < length line → (get_or line 1 0 ≡ 0x20 → ⊥) → None ≡ question_of line
 unfolding question_of
 no-space [] h n = absurd (omega (arith, h))
 no-space (x ∷ []) h n = absurd (omega (arith, h))

@@ -22,7 +22,6 @@ next from number i h =
 
 -- the digits of the first i octets were written
 pub record Sounding (from number : ℕ) (before : List ℕ) (at : ℕ) (out : List ℕ) (end i : ℕ) : Type 0 where
-  pub within : i ≤ number
   pub place : end ≡ at + 2 * i
   pub room : length out ≡ length before
   pub gives : Writing before at (in_hex (sequence from number)) out end (in_hex (sequence (from + i) (number - i)))
@@ -30,7 +29,6 @@ pub record Sounding (from number : ℕ) (before : List ℕ) (at : ℕ) (out : Li
 pub sounding-none : (from number : ℕ) (before : List ℕ) (at : ℕ) → Sounding from number before at before at 0
 sounding-none from number before at =
     record {
-      within = omega arith;
       place = omega arith;
       room = refl;
       gives = rw (add-zero, sub-zero) (begun before (in_hex (sequence from number)) at);
@@ -41,7 +39,6 @@ module _ {from number : ℕ} {before out : List ℕ} {at end i : ℕ} (g : Sound
       → Written out end (last_digits 16 2 (noise_at (from + i))) after next → Sounding from number before at after next (i + 1)
   sounding-more h e room w =
       record {
-        within = omega arith;
         place = omega (arith, e, g.place);
         room = room ∙ g.room;
         gives = went_on (rw (next from number i h) at g.gives) w;

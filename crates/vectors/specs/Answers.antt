@@ -1,6 +1,5 @@
 -- docs/VECTORS.md, "The questions": the text of the answer, from the question's octets q. Assumes nothing.
-use Rattle.std.specs.Prelude.{Bool, ◌||◌, List, [], ◌∷◌, ◌++◌, ℕ, zero, suc, leb, ltb, eqb, length, get_or, take, drop, if◌then◌else◌}
-use Rattle.std.proofs.Math.Option.{Option, none, some}
+use Rattle.std.specs.Prelude.{Option, Some, None, Bool, ◌||◌, List, [], ◌∷◌, ◌++◌, ℕ, zero, suc, leb, ltb, eqb, length, get_or, take, drop, if◌then◌else◌}
 use Prim.Native.Char.{code}
 use Rattle.io.specs.Digits.{last_digits}
 use Rattle.octets.specs.Number.{number_at}
@@ -86,8 +85,8 @@ answer_to letter q =
 
 -- the octets that a line asks about, behind its letter, or none
 abbrev pub answer_if : ℕ → Option (List ℕ) → List ℕ
-answer_if letter none = no_question
-answer_if letter (some q) = answer_to letter q
+answer_if letter None = no_question
+answer_if letter (Some q) = answer_to letter q
 
 -- the answer to a line: "more than 2,048 digits" is no question
 unfoldable pub line_answer : List ℕ → List ℕ

@@ -1,6 +1,5 @@
 -- Hexadecimal digits, and the octets that they stand for, "two digits each". Assumes nothing.
-use Rattle.std.specs.Prelude.{Bool, ◌&&◌, List, [], ◌∷◌, ◌++◌, ℕ, ◌+◌, ◌-◌, ◌*◌, leb, ltb, if◌then◌else◌}
-use Rattle.std.proofs.Math.Option.{Option, none, some}
+use Rattle.std.specs.Prelude.{Option, Some, None, Bool, ◌&&◌, List, [], ◌∷◌, ◌++◌, ℕ, ◌+◌, ◌-◌, ◌*◌, leb, ltb, if◌then◌else◌}
 
 -- "hexadecimal digits (either case)": the value of a digit, and 16 for an octet that is none
 unfoldable pub value_of : ℕ → ℕ
@@ -18,12 +17,12 @@ is_digit x = leb (value_of x) 15
 
 -- octets in front of others, if there are others
 unfoldable pub in_front : List ℕ → Option (List ℕ) → Option (List ℕ)
-in_front xs none = none
-in_front xs (some ys) = some (xs ++ ys)
+in_front xs None = None
+in_front xs (Some ys) = Some (xs ++ ys)
 
 -- the octets of a run of digits; none if one is missing, or another octet stands among them
 unfoldable pub octets_of : List ℕ → Option (List ℕ)
-octets_of [] = some []
-octets_of (high ∷ []) = none
+octets_of [] = Some []
+octets_of (high ∷ []) = None
 octets_of (high ∷ low ∷ ds) =
-    if is_digit high && is_digit low then in_front ((value_of high * 16 + value_of low) ∷ []) (octets_of ds) else none
+    if is_digit high && is_digit low then in_front ((value_of high * 16 + value_of low) ∷ []) (octets_of ds) else None

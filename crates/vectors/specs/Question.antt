@@ -1,21 +1,18 @@
 -- The form of a question. Assumes nothing.
-use Rattle.std.specs.Prelude.{List, [], ◌∷◌, ℕ, eqb, take, if◌then◌else◌}
-use Rattle.std.proofs.Math.Option.{Option, none, some}
+use Rattle.std.specs.Prelude.{Option, Some, None, List, [], ◌∷◌, ℕ, eqb, take, if◌then◌else◌}
 use Rattle.vectors.specs.Digits.{octets_of}
-use Rattle.vectors.specs.declared.digits.Decoded.{Decoded}
-use Rattle.vectors.specs.declared.digits.Decoded.TheVariants.{Octets, Nothing}
 
 -- "a letter from the table, then nothing, or one space and an even number of hexadecimal digits": the octets, behind any letter
 unfoldable pub question_of : List ℕ → Option (List ℕ)
-question_of [] = none
-question_of (letter ∷ []) = some []
-question_of (letter ∷ space ∷ ds) = if eqb space 0x20 then octets_of ds else none
+question_of [] = None
+question_of (letter ∷ []) = Some []
+question_of (letter ∷ space ∷ ds) = if eqb space 0x20 then octets_of ds else None
 
 -- the octets that a decoding left at the start of a buffer
-abbrev pub found_in : Decoded → List ℕ → Option (List ℕ)
-found_in (Octets n) xs = some (take n xs)
-found_in Nothing xs = none
+abbrev pub found_in : Option ℕ → List ℕ → Option (List ℕ)
+found_in (Some n) xs = Some (take n xs)
+found_in None xs = None
 
-abbrev pub count_of : Decoded → ℕ
-count_of (Octets n) = n
-count_of Nothing = 0
+abbrev pub count_of : Option ℕ → ℕ
+count_of (Some n) = n
+count_of None = 0

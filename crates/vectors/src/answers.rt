@@ -9,9 +9,8 @@ ghost use Rattle.heads.specs.Heads.{frame_text, packet_text};
 ghost use Rattle.vectors.specs.Answers.{no_question, of_octets, sequence, noise_text, crc_text, length_text, fit_text, shape_text, counter_text, numbered_text, answer_to, answer_of};
 
 use crate::digits;
-use crate::digits::Decoded;
-use frame::{CheckedCounter, Counter, Frame};
-use packet::{CheckedCount, Count};
+use frame::{Counter, Frame};
+use packet::Count;
 
 // What is printed for a line that is no question.
 fn refusal(out: &mut [u8]) -> usize
@@ -27,10 +26,8 @@ fn noise_octets(from: usize, number: usize, out: &mut [u8], at: usize) -> usize
     ensures { (result ≡ at + 2 * number) × Written out.old at (in_hex (sequence from number)) out.new result }
 {
     let mut end = at;
-    let mut i: usize = 0;
-    while i < number {
+    for i in 0..number {
         end = text::hex(noise::noise_at(from + i) as u64, 2, out, end);
-        i += 1;
     }
     end
 }
@@ -119,12 +116,10 @@ fn shape_answer(q: &[u8], out: &mut [u8]) -> usize
     if q[0] > 3 {
         return refusal(out);
     }
-    let checked_last = Count::checked(octets::u16_at(q, 13));
-    let CheckedCount::Good(last) = checked_last else {
+    let Some(last) = Count::checked(octets::u16_at(q, 13)) else {
         return refusal(out);
     };
-    let checked_count = Count::checked(octets::u16_at(q, 15));
-    let CheckedCount::Good(count) = checked_count else {
+    let Some(count) = Count::checked(octets::u16_at(q, 15)) else {
         return refusal(out);
     };
     fit_answer(q, last, count, out)
@@ -137,12 +132,10 @@ fn counter_answer(q: &[u8], out: &mut [u8]) -> usize
     if q.len() != 6 {
         return refusal(out);
     }
-    let checked_last = Counter::checked(octets::u24_at(q, 0));
-    let CheckedCounter::Good(last) = checked_last else {
+    let Some(last) = Counter::checked(octets::u24_at(q, 0)) else {
         return refusal(out);
     };
-    let checked_next = Counter::checked(octets::u24_at(q, 3));
-    let CheckedCounter::Good(next) = checked_next else {
+    let Some(next) = Counter::checked(octets::u24_at(q, 3)) else {
         return refusal(out);
     };
     text::with_number(b"W", next.follows(last) as u64, out, 0)
@@ -186,13 +179,8 @@ pub fn answer(line: &[u8], held: usize, out: &mut [u8]) -> usize
         return refusal(out);
     }
     let mut asked = [0u8; 1024];
-    let d = digits::question(&line[0..held], &mut asked);
-    match d {
-        Decoded::Octets(n) => {
-            return answer_to(line[0], &asked[0..n], out);
-        }
-        Decoded::Nothing => {
-            return refusal(out);
-        }
+    match digits::question(&line[..held], &mut asked) {
+        Some(n) => answer_to(line[0], &asked[..n], out),
+        None => refusal(out),
     }
 }

@@ -70,27 +70,23 @@ fn take_in(output: Stdout, came: &[u8], line: &mut [u8], held: usize, out: &mut 
     ensures { kept result line.new out.new ≡ all_came came.now (kept held line.old out.old) }
 {
     let mut n = held;
-    let mut i: usize = 0;
-    while i < came.len() {
-        n = take_octet(output, line, n, came[i], out);
-        i += 1;
+    for x in came {
+        n = take_octet(output, line, n, *x, out);
     }
     n
 }
 
-// Nothing says that an input ends, and a proved loop has to: it counts down from a number of turns that no run uses up.
+// Nothing says that an input ends, and a proved loop has to: it has a number of turns that no run uses up.
 fn main(rt: HostRuntime) {
     let mut came = [0u8; PORTION];
     let mut line = [0u8; QUESTION];
     let mut out = [0u8; ANSWER];
     let mut held: usize = 0;
-    let mut turns = u64::MAX;
-    while turns > 0 {
+    for _ in 0..u64::MAX {
         let n = pipes::read_some(rt.stdin(), &mut came);
         if n == 0 {
             return;
         }
         held = take_in(rt.stdout(), &came[0..n], &mut line, held, &mut out);
-        turns -= 1;
     }
 }

@@ -43,27 +43,22 @@ pub fn walk(
     let mut events = n;
     let mut at = from;
     loop {
-        let next = zone::next_at(zone, at);
-        match next {
+        match zone::next_at(zone, at) {
             Next::End(bad) => {
                 return Stop {
                     slots: kept,
-                    events: events,
-                    at: at,
-                    bad: bad,
+                    events,
+                    at,
+                    bad,
                 };
             }
             Next::Take(h) => {
                 let end = at + h.size();
                 let packet = &zone[at..end];
-                let ruling = judge::rule(channel, head.blocks, kept, h, packet);
-                match ruling {
-                    Ruling::Skips => {
-                        at = end;
-                    }
+                match judge::rule(channel, head.blocks, kept, h, packet) {
+                    Ruling::Skips => at = end,
                     Ruling::Says(kind) => {
-                        let application = h.application;
-                        events = events::emit(list, events, kind, application.0, 0);
+                        events = events::emit(list, events, kind, h.application.0, 0);
                         at = end;
                     }
                     Ruling::Does(act) => {
@@ -134,6 +129,5 @@ pub fn walk_rest(
 {
     let w = walk(channel, head, owner, slots, zone, from, store, list, n);
     let left = settle(a.desk, zone, w.at, w.bad, desks, list, w.events);
-    let after = w.slots;
-    zone::leave(after, a, left.held, left.events)
+    zone::leave(w.slots, a, left.held, left.events)
 }

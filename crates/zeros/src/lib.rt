@@ -15,10 +15,8 @@ fn four_zero(a: &[u8], b: &[u8], c: &[u8], d: &[u8]) -> bool
     ensures { result ≡ four_zero a.now b.now c.now d.now }
 {
     let mut any: u8 = 0;
-    let mut i: usize = 0;
-    while i < a.len() {
-        any = any | ((a[i] | b[i]) | (c[i] | d[i]));
-        i += 1;
+    for i in 0..a.len() {
+        any |= (a[i] | b[i]) | (c[i] | d[i]);
     }
     any == 0
 }
@@ -28,10 +26,8 @@ fn run_zero(s: &[u8], from: usize, to: usize) -> bool
     ensures { result ≡ all_zero (part from (to - from) s.now) }
 {
     let mut any: u8 = 0;
-    let mut i = from;
-    while i < to {
-        any = any | s[i];
-        i += 1;
+    for x in &s[from..to] {
+        any |= *x;
     }
     any == 0
 }

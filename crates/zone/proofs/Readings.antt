@@ -1,4 +1,5 @@
 -- Where reading goes on in a frame, case by case, so that no proof has to open the definitions. Assumes nothing.
+use Rattle.std.specs.Prelude.{Ok}
 use mathlib.Core.Path.{◌≡◌, refl, sym, ap, ◌∙◌}
 use mathlib.Core.Bool.{Bool, true, false, true≢false}
 use mathlib.Core.Logic.{◌⊎◌, inl, inr, ⊎_elim}
@@ -12,7 +13,6 @@ use Rattle.octets.proofs.Decide.{decides-same, decides-by, decides-self, decides
 use Rattle.frame.specs.declared.Accepted.{Accepted}
 use Rattle.frame.specs.declared.Channel.{Channel}
 use Rattle.frame.specs.declared.Counter.{Counter}
-use Rattle.frame.specs.declared.Examined.TheVariants as answer
 use Rattle.frame.specs.declared.Pointer.{Pointer}
 use Rattle.frame.specs.declared.Pointer.TheVariants.{Offset, NoStart, Refused}
 use Rattle.frame.specs.Header.{derandomised, frame_of, pointer_meaning}
@@ -63,7 +63,7 @@ meaning-within p = by (pointer_meaning p) (means p)
     by Refused e = omega arith
 
 -- an accepted frame is read from within its zone
-pub start-within : (craft : ℕ) (watched : List Channel) (f : List ℕ) (a : Accepted) → examined craft watched f ≡ answer.Good a
+pub start-within : (craft : ℕ) (watched : List Channel) (f : List ℕ) (a : Accepted) → examined craft watched f ≡ Ok a
     → start_at a.pointer ≤ 884
 start-within craft watched f a e = rw (good-header craft watched f a e).pointer (meaning-within (frame_of (derandomised f)).pointer)
 

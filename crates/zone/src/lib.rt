@@ -38,15 +38,9 @@ fn agrees(lacked: usize, pointer: Pointer) -> bool
     ensures { result ≡ agrees_of lacked pointer }
 {
     match pointer {
-        Pointer::Offset(at) => {
-            return at as usize == lacked;
-        }
-        Pointer::NoStart => {
-            return Frame::ZONE <= lacked;
-        }
-        Pointer::Refused => {
-            return false;
-        }
+        Pointer::Offset(at) => at as usize == lacked,
+        Pointer::NoStart => Frame::ZONE <= lacked,
+        Pointer::Refused => false,
     }
 }
 
@@ -54,11 +48,7 @@ fn agrees(lacked: usize, pointer: Pointer) -> bool
 pub fn is_gap(d: Desk, counter: Counter) -> bool
     ensures { result ≡ gap_of d counter }
 {
-    if d.seen {
-        let last = d.counter;
-        return !counter.follows(last);
-    }
-    false
+    d.seen && !counter.follows(d.counter)
 }
 
 // What comes next in the zone: a whole packet with this header, or the end of what can be judged, at a bad header or not.
@@ -73,20 +63,15 @@ pub fn next_at(zone: &[u8], at: usize) -> Next
     requires { at ≤ length zone.now }
     ensures { result ≡ next_of (drop at zone.now) }
 {
-    let look = packet::look_at(&zone[at..]);
-    match look {
-        Look::Short => {
-            return Next::End(false);
-        }
-        Look::Bad => {
-            return Next::End(true);
-        }
+    match packet::look_at(&zone[at..]) {
+        Look::Short => Next::End(false),
+        Look::Bad => Next::End(true),
         Look::Good(h) => {
-            let size = h.size();
-            if zone.len() - at < size {
-                return Next::End(false);
+            if zone.len() - at < h.size() {
+                Next::End(false)
+            } else {
+                Next::Take(h)
             }
-            return Next::Take(h);
         }
     }
 }
@@ -95,16 +80,14 @@ pub fn next_at(zone: &[u8], at: usize) -> Next
 pub fn leave(slots: [Slot; Station::SLOTS], a: Accepted, held: u16, told: usize) -> Done
     ensures { result ≡ leaves slots a held told }
 {
-    let counter = a.counter;
-    let desk = Desk {
-        held: held,
-        seen: true,
-        counter: counter,
-    };
     Done {
-        slots: slots,
+        slots,
         events: told,
-        desk: desk,
+        desk: Desk {
+            held,
+            seen: true,
+            counter: a.counter,
+        },
     }
 }
 
@@ -120,8 +103,7 @@ pub fn sequel_of(packet: &[u8], held: usize, pointer: Pointer) -> Sequel
     requires { (h : Packet) → look_of packet.now ≡ Look.Good h → held ≤ size_of h }
     ensures { result ≡ sequel_of (look_of packet.now) held pointer }
 {
-    let look = packet::look_at(packet);
-    let Look::Good(h) = look else {
+    let Look::Good(h) = packet::look_at(packet) else {
         return Sequel::Dropped(3);
     };
     let size = h.size();

@@ -20,7 +20,7 @@ pub returns-in-Denied : goal.returns-in-Denied
 returns-in-Denied c =
     let e = c.end_file-ended.ensures in
     tells_as (over-denied _ _ _ _ _ _ e.slots_after c.in-Denied.is)
-    (tells-then (at 6 _ _) e.events_value.0 e.events_value.1 (tells-one _ _ _ c.emit-last.ensures.value c.emit-last.ensures.list_after))
+    (tells-then (at 6 _ _) e.events_value.0 e.events_value.1 (tells-one _ _ _ c.emit.ensures.value c.emit.ensures.list_after))
 
 pub open_at-requires : goal.open_at-requires
 open_at-requires c =

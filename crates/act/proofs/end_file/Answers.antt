@@ -4,5 +4,5 @@ use Rattle.act.proofs.end_file.Goals as goal
 pub returns : goal.returns
 returns c = record {
   slots_after = c.let_go-after.ensures;
-  events_value = (c.emit-m.ensures.value, c.emit-m.ensures.list_after);
+  events_value = (c.emit-events.ensures.value, c.emit-events.ensures.list_after);
 }

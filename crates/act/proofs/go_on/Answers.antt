@@ -10,7 +10,7 @@ overflow_add-x c =
 
 pub returns : goal.returns
 returns c =
-    let e = c.emit-m.ensures in
+    let e = c.emit-events.ensures in
     let w = c.write.ensures in
     record {
       slots_value = refl;

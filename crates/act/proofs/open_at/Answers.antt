@@ -21,4 +21,4 @@ write-requires c =
 
 pub returns : goal.returns
 returns c =
-    tells-opens _ _ _ _ _ _ _ c.open_file-after.ensures c.write.ensures (c.open_events-m.ensures.value, c.open_events-m.ensures.list_after)
+    tells-opens _ _ _ _ _ _ _ c.open_file-after.ensures c.write.ensures (c.open_events-events.ensures.value, c.open_events-events.ensures.list_after)

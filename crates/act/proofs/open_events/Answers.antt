@@ -9,8 +9,8 @@ returns-then-flags-eq-WHOLE c =
     let told = told-whole _ _ _ _ _ m.value m.list_after c.if-flags-eq-WHOLE.true l.value l.list_after in
     record { value = told.0; list_after = told.1 }
 
-pub returns : goal.returns
-returns c =
+pub returns-else-flags-eq-WHOLE : goal.returns-else-flags-eq-WHOLE
+returns-else-flags-eq-WHOLE c =
     let m = c.emit-m.ensures in
     let told = told-first _ _ _ _ _ m.value m.list_after c.if-flags-eq-WHOLE.false in
     record { value = told.0; list_after = told.1 }

@@ -1,49 +1,40 @@
 -- `ask::file_at` meets its contract. Assumes nothing.
+use Rattle.std.proofs.lemmas.Option.{IfSome_then}
 use mathlib.Core.Path.{sym, ap, ◌∙◌}
-use Prim.Native.Nat.{◌<◌}
 use native.Mathlib.Omega.{arith}
-use lib.ListN.{length}
-use Rattle.catalogue.specs.declared.FileEntry.{FileEntry}
-use Rattle.catalogue.specs.declared.FileAsked.TheVariants.{Refused, Nothing, There}
+use borrow.Author.Rules.{rules}
+use lib.Dec.{ltb}
+use Rattle.refusals.proofs.Passing.{passed_on}
 use Rattle.catalogue.specs.Catalogue.{files_of}
 use Rattle.catalogue.specs.Reading.{Lies}
 use Rattle.catalogue.specs.Asking.{file_entry, file_asked}
 use Rattle.catalogue.proofs.Judging.{found-lies}
-use Rattle.catalogue.proofs.Asking.{asked-none, asked-nothing, asked-there, file-count, file-stands}
+use Rattle.catalogue.proofs.Asking.{file-count, file-stands}
+use Rattle.ask.proofs.Answered.{was-found, refused, answered}
 use Rattle.ask.proofs.file_at.Goals as goal
-use Rattle.ask.proofs.file_at.Goals.{In-At, Start}
+use Rattle.ask.proofs.file_at.Goals.{In_ok-at}
 
-short : (c : Start) → length c.args.s.now < 18446744073709551616
-short c = omega arith
+lies : (c : In_ok-at) → Lies c.args.s.now c.in_ok-at.at
+lies c = (found-lies (was-found _ c.places.ensures c.in_ok-at.was)).1
 
-lies : (c : In-At) → Lies c.args.s.now c.in-At.at
-lies c = (found-lies (sym c.find-found.ensures ∙ c.in-At.is)).1
-
-pub returns-then-n-at : goal.returns-then-n-at
+pub returns-in_err-at : goal.returns-in_err-at
 unfolding file_asked
-returns-then-n-at c =
-    let a = c.args in
-    asked-nothing (Refused 31) Nothing (λ r. There (file_entry r)) a.s.now (files_of a.s.now) a.n c.find-found.ensures c.in-At.is
-    (omega (arith, file-count (lies (goal.at.returns-then-n-at c).In-At)))
+returns-in_err-at c =
+    let s = c.args.s.now in
+    passed_on _ c.from_residual.ensures.1 ∙ refused s c.places.ensures file_entry (files_of s) c.args.n c.in_err-at.was
 
-pub overflow_mul-n : goal.overflow_mul-n
-overflow_mul-n c = omega (arith, (lies (goal.at.overflow_mul-n c).In-At).second, (lies (goal.at.overflow_mul-n c).In-At).third, (lies (goal.at.overflow_mul-n c).In-At).ends, short (goal.at.overflow_mul-n c).Start)
+pub then-requires : goal.then-requires
+then-requires c t =
+    let L = lies (goal.at.then-requires c).In_ok-at in
+    search (rules, L.second, L.third, L.ends)
 
-pub overflow_add-n : goal.overflow_add-n
-overflow_add-n c = omega (arith, (lies (goal.at.overflow_add-n c).In-At).second, (lies (goal.at.overflow_add-n c).In-At).third, (lies (goal.at.overflow_add-n c).In-At).ends, short (goal.at.overflow_add-n c).Start)
-
-pub file_entry-requires : goal.file_entry-requires
-file_entry-requires c = omega (arith, (lies (goal.at.file_entry-requires c).In-At).second, (lies (goal.at.file_entry-requires c).In-At).third, (lies (goal.at.file_entry-requires c).In-At).ends)
-
-pub returns-in-Nowhere : goal.returns-in-Nowhere
+pub returns : goal.returns
 unfolding file_asked
-returns-in-Nowhere c =
-    let a = c.args in
-    asked-none (Refused 31) Nothing (λ r. There (file_entry r)) a.s.now (files_of a.s.now) a.n c.find-found.ensures c.in-Nowhere.is
-
-pub returns-else-n-at : goal.returns-else-n-at
-unfolding file_asked
-returns-else-n-at c =
-    let a = c.args in
-    asked-there (Refused 31) Nothing (λ r. There (file_entry r)) a.s.now (files_of a.s.now) a.n c.find-found.ensures c.in-At.is
-    (omega (arith, file-count (lies (goal.at.returns-else-n-at c).In-At))) (ap (λ (x : FileEntry). There x) c.file_entry.ensures) (file-stands (lies (goal.at.returns-else-n-at c).In-At) a.n (omega arith))
+returns c =
+    let s = c.args.s.now in
+    let n = c.args.n in
+    let L = lies (goal.at.returns c).In_ok-at in
+    answered s c.places.ensures file_entry (files_of s) n c.in_ok-at.was c.then.result
+    (c.then.ensures.variant ∙ ap (ltb n) (sym (file-count L)))
+    (IfSome_then c.then.result c.then.ensures.some (λ x p. search rules))
+    (λ h. file-stands L n (omega (arith, h, file-count L)))

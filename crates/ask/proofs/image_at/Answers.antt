@@ -1,52 +1,40 @@
 -- `ask::image_at` meets its contract. Assumes nothing.
+use Rattle.std.proofs.lemmas.Option.{IfSome_then}
 use mathlib.Core.Path.{sym, ap, ◌∙◌}
-use Prim.Native.Nat.{◌<◌}
 use native.Mathlib.Omega.{arith}
-use lib.ListN.{length}
-use Rattle.catalogue.specs.declared.ImageEntry.{ImageEntry}
-use Rattle.catalogue.specs.declared.ImageAsked.TheVariants.{Refused, Nothing, There}
+use borrow.Author.Rules.{rules}
+use lib.Dec.{ltb}
+use Rattle.refusals.proofs.Passing.{passed_on}
 use Rattle.catalogue.specs.Catalogue.{images_of}
 use Rattle.catalogue.specs.Reading.{Lies}
 use Rattle.catalogue.specs.Asking.{image_entry, image_asked}
 use Rattle.catalogue.proofs.Judging.{found-lies}
-use Rattle.catalogue.proofs.Asking.{asked-none, asked-nothing, asked-there, image-count, image-stands}
+use Rattle.catalogue.proofs.Asking.{image-count, image-stands}
+use Rattle.ask.proofs.Answered.{was-found, refused, answered}
 use Rattle.ask.proofs.image_at.Goals as goal
-use Rattle.ask.proofs.image_at.Goals.{In-At, Start}
+use Rattle.ask.proofs.image_at.Goals.{In_ok-at}
 
-short : (c : Start) → length c.args.s.now < 18446744073709551616
-short c = omega arith
+lies : (c : In_ok-at) → Lies c.args.s.now c.in_ok-at.at
+lies c = (found-lies (was-found _ c.places.ensures c.in_ok-at.was)).1
 
-lies : (c : In-At) → Lies c.args.s.now c.in-At.at
-lies c = (found-lies (sym c.find-found.ensures ∙ c.in-At.is)).1
-
-pub returns-then-n-at : goal.returns-then-n-at
+pub returns-in_err-at : goal.returns-in_err-at
 unfolding image_asked
-returns-then-n-at c =
-    let a = c.args in
-    asked-nothing (Refused 31) Nothing (λ r. There (image_entry r)) a.s.now (images_of a.s.now) a.n c.find-found.ensures c.in-At.is
-    (omega (arith, image-count (lies (goal.at.returns-then-n-at c).In-At)))
+returns-in_err-at c =
+    let s = c.args.s.now in
+    passed_on _ c.from_residual.ensures.1 ∙ refused s c.places.ensures image_entry (images_of s) c.args.n c.in_err-at.was
 
-pub overflow_add-at : goal.overflow_add-at
-overflow_add-at c = omega (arith, (lies (goal.at.overflow_add-at c).In-At).second, (lies (goal.at.overflow_add-at c).In-At).third, (lies (goal.at.overflow_add-at c).In-At).ends, short (goal.at.overflow_add-at c).Start)
+pub then-requires : goal.then-requires
+then-requires c t =
+    let L = lies (goal.at.then-requires c).In_ok-at in
+    search (rules, L.second, L.third, L.ends)
 
-pub overflow_mul-n : goal.overflow_mul-n
-overflow_mul-n c = omega (arith, (lies (goal.at.overflow_mul-n c).In-At).second, (lies (goal.at.overflow_mul-n c).In-At).third, (lies (goal.at.overflow_mul-n c).In-At).ends, short (goal.at.overflow_mul-n c).Start)
-
-pub overflow_add-at-in-At : goal.overflow_add-at-in-At
-overflow_add-at-in-At c = omega (arith, (lies (goal.at.overflow_add-at-in-At c).In-At).second, (lies (goal.at.overflow_add-at-in-At c).In-At).third, (lies (goal.at.overflow_add-at-in-At c).In-At).ends, short (goal.at.overflow_add-at-in-At c).Start)
-
-pub image_entry-requires : goal.image_entry-requires
-image_entry-requires c = omega (arith, (lies (goal.at.image_entry-requires c).In-At).second, (lies (goal.at.image_entry-requires c).In-At).third, (lies (goal.at.image_entry-requires c).In-At).ends)
-
-pub returns-in-Nowhere : goal.returns-in-Nowhere
+pub returns : goal.returns
 unfolding image_asked
-returns-in-Nowhere c =
-    let a = c.args in
-    asked-none (Refused 31) Nothing (λ r. There (image_entry r)) a.s.now (images_of a.s.now) a.n c.find-found.ensures c.in-Nowhere.is
-
-pub returns-else-n-at : goal.returns-else-n-at
-unfolding image_asked
-returns-else-n-at c =
-    let a = c.args in
-    asked-there (Refused 31) Nothing (λ r. There (image_entry r)) a.s.now (images_of a.s.now) a.n c.find-found.ensures c.in-At.is
-    (omega (arith, image-count (lies (goal.at.returns-else-n-at c).In-At))) (ap (λ (x : ImageEntry). There x) c.image_entry.ensures) (image-stands (lies (goal.at.returns-else-n-at c).In-At) a.n (omega arith))
+returns c =
+    let s = c.args.s.now in
+    let n = c.args.n in
+    let L = lies (goal.at.returns c).In_ok-at in
+    answered s c.places.ensures image_entry (images_of s) n c.in_ok-at.was c.then.result
+    (c.then.ensures.variant ∙ ap (ltb n) (sym (image-count L)))
+    (IfSome_then c.then.result c.then.ensures.some (λ x p. search rules))
+    (λ h. image-stands L n (omega (arith, h, image-count L)))

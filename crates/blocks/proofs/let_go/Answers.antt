@@ -3,4 +3,4 @@ use Rattle.room.proofs.Given.{is-let_go}
 use Rattle.blocks.proofs.let_go.Goals as goal
 
 pub returns : goal.returns
-returns c = is-let_go _ _ _ c.none-empty.ensures c.free_blocks.ensures
+returns c = is-let_go _ _ _ c.none.ensures c.free_blocks.ensures

@@ -13,15 +13,15 @@ pub returns-then-d-eq0 : goal.returns-then-d-eq0
 returns-then-d-eq0 c =
     (omega (arith, c.start_at-from.ensures), by-none (sym c.is_gap.ensures ∙ c.if-is_gap.false) c.if-d-eq0.true refl refl refl)
 
-pub join-sequel-requires : goal.join-sequel-requires
-join-sequel-requires c = c.requires.joining (omega arith)
+pub join-requires : goal.join-requires
+join-requires c = c.requires.joining (omega arith)
 
 pub returns-in-Dropped : goal.returns-in-Dropped
 returns-in-Dropped c =
     let told = c.emit-n-in-Dropped.ensures in (
       omega (arith, c.start_at-from.ensures),
-      by-drop (sym c.is_gap.ensures ∙ c.if-is_gap.false) (omega arith) c.join-sequel.ensures.desks_after
-          (sym c.join-sequel.ensures.value ∙ c.in-Dropped.is) told.value told.list_after,
+      by-drop (sym c.is_gap.ensures ∙ c.if-is_gap.false) (omega arith) c.join.ensures.desks_after
+          (sym c.join.ensures.value ∙ c.in-Dropped.is) told.value told.list_after,
     )
 
 pub returns-in-CarriedOn : goal.returns-in-CarriedOn
@@ -29,7 +29,7 @@ returns-in-CarriedOn c =
     record {
       seamless = sym c.is_gap.ensures ∙ c.if-is_gap.false;
       some = omega arith;
-      wrote = c.join-sequel.ensures.desks_after;
-      sequel = sym c.join-sequel.ensures.value ∙ c.in-CarriedOn.is;
+      wrote = c.join.ensures.desks_after;
+      sequel = sym c.join.ensures.value ∙ c.in-CarriedOn.is;
       none = refl;
     }

@@ -1,10 +1,8 @@
 -- `carry::walk_frame` is the definition `walked`: the zone read at the pointer, or the packet on the desk first. Assumes nothing.
-use mathlib.Core.Path.{◌≡◌, ap, ◌∙◌}
+use mathlib.Core.Path.{◌≡◌}
 use native.Mathlib.Omega.{arith}
 use borrow.Author.Rules.{rules}
-use lib.ListN.{length}
 use Rattle.octets.proofs.Lists.{unmap}
-use Rattle.octets.proofs.Put.{length-put}
 use Rattle.state.specs.declared.Station.{Station}
 use Rattle.state.specs.Slots.{station_of, desk_at}
 use Rattle.state.specs.Sound.{Sized}
@@ -12,9 +10,9 @@ use Rattle.walk.proofs.Ends.{desk-fits}
 use Rattle.carry.specs.Contract.{Begins}
 use Rattle.carry.specs.declared.Opening.{Opening}
 use Rattle.carry.specs.declared.Opening.TheVariants.{Carries}
-use Rattle.carry.proofs.Carry.{beginning, afresh-lent, afresh-few, afresh-tells, onward-lacking, onward-most, onward-length, onward-longer, onward-going, onward-lent, onward-few, onward-tells}
+use Rattle.carry.proofs.Carry.{beginning, afresh-tells, onward-lacking, onward-most, onward-length, onward-longer, onward-going, onward-lent, onward-few, onward-tells}
 use Rattle.carry.proofs.walk_frame.Goals as goal
-use Rattle.carry.proofs.walk_frame.Goals.{After-begin-opening, In-Carries, Start}
+use Rattle.carry.proofs.walk_frame.Goals.{After-begin, In-Carries, Start}
 
 abbrev station : Start → Station
 station i = station_of i.args.head i.args.owner.now i.args.slots
@@ -24,52 +22,39 @@ sized c =
     record { watched = search (rules, unmap); desks = search (rules, unmap); owner = c.requires.lent.owners; slots = search (rules, unmap) }
 
 -- where the code begins, from where it is known how the frame does
-abbrev start : After-begin-opening → Start
-start b = (goal.at.After-begin-opening b).Start
+abbrev start : After-begin → Start
+start b = (goal.at.After-begin b).Start
 
-abbrev BeginsBy : After-begin-opening → Opening → Type 0
+abbrev BeginsBy : After-begin → Opening → Type 0
 BeginsBy b x =
     let i = (start b).args in
-    Begins (desk_at (station (start b)) i.a.desk) i.a i.zone.now i.desks.now i.list.now x b.begin-opening.new.desks
-    b.begin-opening.new.list
+    Begins (desk_at (station (start b)) i.a.desk) i.a i.zone.now i.desks.now i.list.now x b.begin.new.desks
+    b.begin.new.list
 
-begins : (b : After-begin-opening) → {x : Opening} → b.begin-opening.result ≡ x → BeginsBy b x
-begins b e = rw e at b.begin-opening.ensures
+begins : (b : After-begin) → {x : Opening} → b.begin.result ≡ x → BeginsBy b x
+begins b e = rw e at b.begin.ensures
 
 -- and from where it is the packet on the desk
-abbrev begun : In-Carries → After-begin-opening
-begun k = (goal.at.In-Carries k).After-begin-opening
+abbrev begun : In-Carries → After-begin
+begun k = (goal.at.In-Carries k).After-begin
 
 onwards : (k : In-Carries) → BeginsBy (begun k) (Carries k.in-Carries.size)
 onwards k = begins (begun k) k.in-Carries.is
 
-pub begin-opening-requires : goal.begin-opening-requires
-begin-opening-requires c =
+pub begin-requires : goal.begin-requires
+begin-requires c =
     beginning c.requires.lent c.requires.desks_sound
-
-pub walk_rest-requires : goal.walk_rest-requires
-walk_rest-requires c =
-    let i = start (goal.at.walk_rest-requires c).After-begin-opening in
-    let o = begins (goal.at.walk_rest-requires c).After-begin-opening c.in-Reads.is in record {
-      lent = afresh-lent i.requires.lent i.requires.desks_sound o.1;
-      from_bound = (omega (arith, o.0, i.requires.lent.start), omega (arith, afresh-few i.requires.lent i.requires.desks_sound o.1));
-    }
 
 pub returns-in-Reads : goal.returns-in-Reads
 returns-in-Reads c =
-    let i = start (goal.at.returns-in-Reads c).After-begin-opening in
-    let o = begins (goal.at.returns-in-Reads c).After-begin-opening c.in-Reads.is in
+    let i = start (goal.at.returns-in-Reads c).After-begin in
+    let o = begins (goal.at.returns-in-Reads c).After-begin c.in-Reads.is in
     afresh-tells i.requires.lent i.requires.desks_sound o.0 o.1 c.walk_rest.ensures
 
 pub overflow_sub-lacked : goal.overflow_sub-lacked
 overflow_sub-lacked c =
     let i = start (begun (goal.at.overflow_sub-lacked c).In-Carries) in
     omega (arith, onward-lacking i.requires.lent i.requires.desks_sound (onwards (goal.at.overflow_sub-lacked c).In-Carries))
-
-pub overflow_cast-all : goal.overflow_cast-all
-overflow_cast-all c =
-    let i = start (begun (goal.at.overflow_cast-all c).In-Carries) in
-    omega (arith, onward-lacking i.requires.lent i.requires.desks_sound (onwards (goal.at.overflow_cast-all c).In-Carries), onward-most i.requires.lent i.requires.desks_sound (onwards (goal.at.overflow_cast-all c).In-Carries))
 
 pub returns-then-lacked-gt-ZONE : goal.returns-then-lacked-gt-ZONE
 returns-then-lacked-gt-ZONE c =
@@ -103,17 +88,7 @@ walk_rest-requires-in-Carries c =
       from_bound = (l, onward-few i.requires.lent i.requires.desks_sound O l c.walk-w.ensures);
     }
 
-pub shape_of-desks-in-Carries : goal.shape_of-desks-in-Carries
-shape_of-desks-in-Carries c =
-    let i = start (begun (goal.at.shape_of-desks-in-Carries c).In-Carries) in
-    ap length c.walk_rest-in-Carries.ensures.desked ∙ simp length-put (onward-length i.requires.lent i.requires.desks_sound (onwards (goal.at.shape_of-desks-in-Carries c).In-Carries))
-
-pub shape_of-list-in-Carries : goal.shape_of-list-in-Carries
-shape_of-list-in-Carries c =
-    ap length c.walk_rest-in-Carries.ensures.listed
-    ∙ simp length-put (ap length c.walk-w.ensures.told.listed ∙ simp length-put (ap length (onwards (goal.at.shape_of-list-in-Carries c).In-Carries).none))
-
-pub returns-in-Carries : goal.returns-in-Carries
-returns-in-Carries c =
-    let i = start (begun (goal.at.returns-in-Carries c).In-Carries) in
-    onward-tells i.requires.lent i.requires.desks_sound (onwards (goal.at.returns-in-Carries c).In-Carries) c.if-lacked-gt-ZONE.false c.walk-w.ensures c.walk_rest-in-Carries.ensures
+pub returns-else-lacked-gt-ZONE : goal.returns-else-lacked-gt-ZONE
+returns-else-lacked-gt-ZONE c =
+    let i = start (begun (goal.at.returns-else-lacked-gt-ZONE c).In-Carries) in
+    onward-tells i.requires.lent i.requires.desks_sound (onwards (goal.at.returns-else-lacked-gt-ZONE c).In-Carries) c.if-lacked-gt-ZONE.false c.walk-w.ensures c.walk_rest-in-Carries.ensures

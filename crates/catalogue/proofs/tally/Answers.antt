@@ -1,3 +1,4 @@
+use Prim.Native.Nat.{◌+◌, ◌*◌}
 use native.Mathlib.Omega.{arith}
 use lib.ListN.{get_or}
 use Rattle.catalogue.proofs.Counting.{tallying, tally-low, tally-more, tally-end}
@@ -6,20 +7,11 @@ use Rattle.catalogue.proofs.tally.Goals as goal
 pub loop-i-init : goal.loop-i-init
 loop-i-init c = tallying _ _ _ (omega arith) (omega arith) c.requires.2
 
-pub overflow_cast-c : goal.overflow_cast-c
-overflow_cast-c c = omega (arith, c.type_inv.s c.loop-i.p)
-
-pub offset_bounds-counts-c : goal.offset_bounds-counts-c
-offset_bounds-counts-c c = omega (arith, tally-low c.loop-i.invariant (omega arith))
-
 pub bounds-counts-c : goal.bounds-counts-c
 bounds-counts-c c = omega (arith, tally-low c.loop-i.invariant (omega arith))
 
 pub overflow_add-counts : goal.overflow_add-counts
-overflow_add-counts c = omega (arith, c.loop-i.invariant.small (get_or c.args.s.now c.loop-i.p 0))
-
-pub offset_bounds-counts-c-in-loop-i : goal.offset_bounds-counts-c-in-loop-i
-offset_bounds-counts-c-in-loop-i c = omega (arith, tally-low c.loop-i.invariant (omega arith))
+overflow_add-counts c = omega (arith, c.loop-i.invariant.small (get_or c.args.s.now (c.args.at + c.loop-i.i * 14) 0))
 
 pub bounds-counts-c-in-loop-i : goal.bounds-counts-c-in-loop-i
 bounds-counts-c-in-loop-i c = omega (arith, tally-low c.loop-i.invariant (omega arith))

@@ -13,9 +13,6 @@ loop-c-preserved-then-counts-c-eq0 c = compare-skip c.loop-c.invariant (omega ar
 pub returns-then-j-k : goal.returns-then-j-k
 returns-then-j-k c = compare-short c.loop-c.invariant (omega arith) c.if-counts-c-eq0.false c.if-j-k.true
 
-pub overflow_cast-s : goal.overflow_cast-s
-overflow_cast-s c = omega (arith, c.type_inv.s c.loop-c.p)
-
 pub returns-then-s-p : goal.returns-then-s-p
 returns-then-s-p c = compare-other c.loop-c.invariant (omega arith) c.if-counts-c-eq0.false (omega arith) (inl c.if-s-p.true)
 

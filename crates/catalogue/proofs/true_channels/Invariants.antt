@@ -1,9 +1,5 @@
-use Prim.Native.Nat.{◌-◌}
 use Rattle.catalogue.proofs.Counting.{Comparing}
 use Rattle.catalogue.proofs.true_channels.Given as goal
 
 abbrev pub invariant-loop-c : goal.invariant-loop-c
-invariant-loop-c l = Comparing 63 l.s l.at l.k l.counts l.c l.j l.p
-
-abbrev pub decreases-loop-c : goal.decreases-loop-c
-decreases-loop-c l = 63 - l.c
+invariant-loop-c l = Comparing 63 l.s l.at l.k l.counts l.c l.j

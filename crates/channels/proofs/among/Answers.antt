@@ -1,23 +1,21 @@
--- `among` meets its contract. The loop's invariant: the channel is named from place from on exactly if it is named from place i on. The measure
--- is what is left of the list. Assumes nothing.
-use mathlib.Core.Path.{refl}
-use native.Mathlib.Omega.{arith}
-use borrow.Author.Tests.{eq-eqb, ne_eqb}
+-- `among` meets its contract: what the definition says of a list, `contains` says of the channels from place from on. Assumes nothing.
+use mathlib.Core.Path.{◌≡◌, refl, ap, ◌∙◌}
+use mathlib.Core.Bool.{◌||◌}
+use mathlib.Core.List.{List, [], ◌∷◌}
+use Prim.Native.Nat.{ℕ}
+use lib.Dec.{eqb}
+use lib.ListN.{drop}
+use Rattle.std.specs.List.{list_any}
+use Rattle.octets.proofs.Lists.{whole-rest}
 use Rattle.state.specs.Decision.{among}
-use Rattle.state.proofs.Walk.{begins-at, settled, passed, ended}
 use Rattle.channels.proofs.among.Goals as goal
 
-pub loop-i-init : goal.loop-i-init
-loop-i-init c = begins-at _ _ _ _ refl (omega arith)
-
-pub returns-then-channels-i : goal.returns-then-channels-i
+named : (c : ℕ) (xs : List ℕ) → list_any (λ (y : ℕ). eqb y c) xs ≡ among c xs
 unfolding among
-returns-then-channels-i c = settled c.loop-i.invariant 0 (omega arith) (rw (eq-eqb _ _ c.if-channels-i.true))
-
-pub loop-i-preserved : goal.loop-i-preserved
-unfolding among
-loop-i-preserved c = passed c.loop-i.invariant 0 (omega arith) (rw (ne_eqb _ _ c.if-channels-i.false))
+named c [] = refl
+named c (x ∷ xs) = ap (λ b. eqb x c || b) (named c xs)
 
 pub returns : goal.returns
-unfolding among
-returns c = ended c.loop-i.invariant (omega arith) refl
+returns c =
+    let a = c.args in
+    c.contains.ensures.value ∙ ap (list_any (λ y. eqb y a.c)) (whole-rest a.channels.now a.from) ∙ named a.c (drop a.from a.channels.now)

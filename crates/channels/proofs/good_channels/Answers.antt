@@ -1,5 +1,5 @@
--- `good_channels` meets its contract. The loop's invariant: the channels are distinct and 0 to 62 exactly if those from place i on are. The
--- measure is what is left of the list. Assumes nothing.
+-- `good_channels` meets its contract. The loop's invariant: the channels are distinct and 0 to 62 exactly if those from place i on are.
+-- Assumes nothing.
 use mathlib.Core.Path.{◌≡◌, refl, sym, ap, ◌∙◌}
 use mathlib.Core.Bool.{true, false}
 use mathlib.Core.List.{List, ◌∷◌}
@@ -9,7 +9,7 @@ use borrow.Author.Tests.{le-leb, lt-leb}
 use lib.ListN.{length}
 use Rattle.octets.proofs.Tests.{tests}
 use Rattle.state.specs.Decision.{among, distinct_channels, good_channels}
-use Rattle.state.proofs.Walk.{begins-at, behind, settled, passed, ended}
+use Rattle.state.proofs.Walk.{behind, settled, passed, ended}
 use Rattle.channels.proofs.good_channels.Goals as goal
 
 -- what the first channel says
@@ -39,9 +39,6 @@ returns-then-channels-lt1 c = search tests
 pub returns-then-channels-gt-MOST : goal.returns-then-channels-gt-MOST
 unfolding good_channels
 returns-then-channels-gt-MOST c = search tests
-
-pub loop-i-init : goal.loop-i-init
-loop-i-init c = begins-at _ _ _ 0 refl (omega arith)
 
 pub returns-then-c-gt-LAST : goal.returns-then-c-gt-LAST
 returns-then-c-gt-LAST c = settled c.loop-i.invariant 0 (omega arith) (high _ _ (omega arith)) ∙ good _ (omega arith) (omega arith)

@@ -1,6 +1,6 @@
 -- `crc::by_bits` meets its contract. The loop's invariant: what is wanted is what the octets that are left make of the register.
 -- Assumes nothing.
-use mathlib.Core.Path.{◌≡◌, refl, ◌∙◌, ap}
+use mathlib.Core.Path.{◌≡◌, ◌∙◌, ap}
 use mathlib.Core.List.{List}
 use Prim.Native.Nat.{ℕ, ◌+◌, ◌<◌}
 use native.Mathlib.Numerals.{add-one}
@@ -15,14 +15,8 @@ one_more : (xs : List ℕ) (c s i t : ℕ) → i < length xs → t ≡ crc_from 
 unfolding crc_from
 one_more xs c s i t h e f = rw (add-one, f) (e ∙ ap (crc_from c) (drop-cons xs i 0 h))
 
-pub loop-i-init : goal.loop-i-init
-loop-i-init c = (omega arith, refl)
-
-pub octet-c-requires : goal.octet-c-requires
-octet-c-requires c = tt
-
-pub loop-i-preserved : goal.loop-i-preserved
-loop-i-preserved c = (omega arith, one_more _ _ _ _ _ c.loop-i-test.true c.loop-i.invariant.1 c.octet-c.ensures)
+pub loop-x-preserved : goal.loop-x-preserved
+loop-x-preserved c = one_more _ _ _ _ _ c.loop-x-test.true c.loop-x.invariant c.octet-c.ensures
 
 pub returns : goal.returns
-returns c = none_left _ _ _ _ c.loop-i-test.false c.loop-i.invariant.1
+returns c = none_left c.args.octets.now _ c.loop-x.x-index _ (omega arith) c.loop-x.invariant

@@ -1,91 +1,40 @@
 -- `crc::by_tables` meets its contract. The loop's invariant: what is wanted is what the octets that are left make of the register.
 -- Assumes nothing.
 use mathlib.Core.Path.{◌≡◌, refl, sym, ap, subst, ◌∙◌}
-use mathlib.Core.List.{List, [], ◌∷◌}
-use Prim.Native.Nat.{ℕ, ◌+◌, ◌/◌, ◌%◌, ◌<◌}
-use native.Mathlib.Numerals.{add-one}
+use mathlib.Core.List.{List, [], ◌∷◌, ◌++◌}
+use Prim.Native.Nat.{ℕ, ◌<◌}
 use native.Mathlib.Omega.{arith}
-use lib.Bits.{xor_lt}
-use lib.ListN.{length, get_or, drop}
-use lib.Seq.{drop-cons}
+use lib.ListN.{length, get_or, length-append}
 use Rattle.crc.specs.Crc.{crc_from}
-use Rattle.crc.proofs.Laws.{crc-below, none_left}
+use Rattle.crc.proofs.Laws.{crc-append, crc-below, none_left}
 use Rattle.crc.proofs.Parts.{by-four}
 use Rattle.crc.proofs.by_tables.Goals as goal
-use Rattle.crc.proofs.by_tables.Goals.{In-loop-i}
+use Rattle.crc.proofs.by_tables.Goals.{In-Some}
 
-next : (xs : List ℕ) (i j : ℕ) → j ≡ i + 1 → i < length xs → drop i xs ≡ get_or xs i 0 ∷ drop j xs
-next xs i j e h = drop-cons xs i 0 h ∙ ap (λ (k : ℕ). get_or xs i 0 ∷ drop k xs) (sym (e ∙ add-one i))
+four-octets : (xs : List ℕ) → length xs ≡ 4 → xs ≡ get_or xs 0 0 ∷ get_or xs 1 0 ∷ get_or xs 2 0 ∷ get_or xs 3 0 ∷ []
+four-octets [] e = absurd (omega arith)
+four-octets (x ∷ []) e = absurd (omega arith)
+four-octets (x ∷ y ∷ []) e = absurd (omega arith)
+four-octets (x ∷ y ∷ z ∷ []) e = absurd (omega arith)
+four-octets (x ∷ y ∷ z ∷ w ∷ []) e = refl
+four-octets (x ∷ y ∷ z ∷ w ∷ v ∷ vs) e = absurd (omega arith)
 
-four-more : (xs : List ℕ) (c s i t : ℕ) → i + 3 < length xs → t ≡ crc_from c (drop i xs) → s ≡ crc_from c (get_or xs i 0 ∷ get_or xs (i + 1) 0 ∷ get_or xs (i + 2) 0 ∷ get_or xs (i + 3) 0 ∷ []) → t ≡ crc_from s (drop (i + 4) xs)
-unfolding crc_from
-four-more xs c s i t h e f =
-    let whole : drop i xs ≡ get_or xs i 0 ∷ get_or xs (i + 1) 0 ∷ get_or xs (i + 2) 0 ∷ get_or xs (i + 3) 0 ∷ drop (i + 4) xs =
-    next xs i (i + 1) refl (omega arith)
-    ∙ ap (λ (l : List ℕ). get_or xs i 0 ∷ l)
-    (next xs (i + 1) (i + 2) (omega arith) (omega arith)
-    ∙ ap (λ (l : List ℕ). get_or xs (i + 1) 0 ∷ l)
-    (next xs (i + 2) (i + 3) (omega arith) (omega arith)
-    ∙ ap (λ (l : List ℕ). get_or xs (i + 2) 0 ∷ l) (next xs (i + 3) (i + 4) (omega arith) h))) in
-    rw f (e ∙ ap (crc_from c) whole)
+four-more : (left four rest : List ℕ) (c s t : ℕ) → t ≡ crc_from c left → left ≡ four ++ rest → length four ≡ 4
+    → s ≡ crc_from c (get_or four 0 0 ∷ get_or four 1 0 ∷ get_or four 2 0 ∷ get_or four 3 0 ∷ []) → t ≡ crc_from s rest
+four-more left four rest c s t e f n g =
+    e ∙ ap (crc_from c) f ∙ crc-append c four rest ∙ ap (λ (k : ℕ). crc_from k rest) (ap (crc_from c) (four-octets four n) ∙ sym g)
 
--- where the four octets have been read
-abbrev lent : In-loop-i → List ℕ
-lent c = c.args.octets.now
+pub loop-four-init : goal.loop-four-init
+loop-four-init c =
+    let e = c.into_iter-four-iterator.ensures.into_iter_gives in
+    let chunks = c.chunks_exact-four-items.ensures in
+    rw e (chunks.size, rw chunks.rest c.requires, omega arith, rw chunks.rest refl)
 
-abbrev octet-at : In-loop-i → ℕ → ℕ
-octet-at c j = get_or (lent c) j 0
-
-octet-below : (c : In-loop-i) (j : ℕ) → octet-at c j < 0x100
-octet-below c j = (c.type_inv.octets j).fits
-
-pub loop-i-init : goal.loop-i-init
-loop-i-init c = (omega arith, refl, omega arith, refl)
-
-pub bounds-three-x : goal.bounds-three-x
-bounds-three-x c =
-    let turn = c.loop-i in
-    xor_lt 8 (turn.c / 0x100) (octet-at (goal.at.bounds-three-x c).In-loop-i turn.i) (omega arith) (octet-below (goal.at.bounds-three-x c).In-loop-i turn.i)
-
-pub overflow_cast-c : goal.overflow_cast-c
-overflow_cast-c c = omega (arith, bounds-three-x c)
-
-pub offset_bounds-three-x : goal.offset_bounds-three-x
-offset_bounds-three-x c = omega (arith, bounds-three-x c)
-
-pub bounds-two-y : goal.bounds-two-y
-bounds-two-y c =
-    let turn = c.loop-i in
-    xor_lt 8 (turn.c % 0x100) (octet-at (goal.at.bounds-two-y c).In-loop-i (turn.i + 1)) (omega arith) (octet-below (goal.at.bounds-two-y c).In-loop-i (turn.i + 1))
-
-pub overflow_cast-c-in-loop-i : goal.overflow_cast-c-in-loop-i
-overflow_cast-c-in-loop-i c = omega (arith, bounds-two-y c)
-
-pub offset_bounds-two-y : goal.offset_bounds-two-y
-offset_bounds-two-y c = omega (arith, bounds-two-y c)
-
-pub bounds-one-z : goal.bounds-one-z
-bounds-one-z c = octet-below (goal.at.bounds-one-z c).In-loop-i _
-
-pub overflow_cast-c-in-loop-i-2 : goal.overflow_cast-c-in-loop-i-2
-overflow_cast-c-in-loop-i-2 c = omega (arith, bounds-one-z c)
-
-pub offset_bounds-one-z : goal.offset_bounds-one-z
-offset_bounds-one-z c = omega (arith, bounds-one-z c)
-
-pub bounds-none-w : goal.bounds-none-w
-bounds-none-w c = octet-below (goal.at.bounds-none-w c).In-loop-i _
-
-pub overflow_cast-c-in-loop-i-3 : goal.overflow_cast-c-in-loop-i-3
-overflow_cast-c-in-loop-i-3 c = omega (arith, bounds-none-w c)
-
-pub offset_bounds-none-w : goal.offset_bounds-none-w
-offset_bounds-none-w c = omega (arith, bounds-none-w c)
-
-pub loop-i-preserved : goal.loop-i-preserved
-loop-i-preserved c =
-    let inv = c.loop-i.invariant in
-    let i = c.loop-i.i in
+pub loop-four-preserved : goal.loop-four-preserved
+loop-four-preserved c =
+    let inv = c.loop-four.invariant in
+    let step = c.in-Some.ensures.steps in
+    let four = c.in-Some.four.now in
     let register =
     by-four
     _
@@ -96,17 +45,22 @@ loop-i-preserved c =
     c.table-two.ensures
     c.table-one.ensures
     c.table-none.ensures
-    c.loop-i.c
-    (octet-at (goal.at.loop-i-preserved c).In-loop-i i)
-    (octet-at (goal.at.loop-i-preserved c).In-loop-i (i + 1))
-    (octet-at (goal.at.loop-i-preserved c).In-loop-i (i + 2))
-    (octet-at (goal.at.loop-i-preserved c).In-loop-i (i + 3))
+    c.loop-four.c
+    (get_or four 0 0)
+    (get_or four 1 0)
+    (get_or four 2 0)
+    (get_or four 3 0)
     inv.2
-    (octet-below (goal.at.loop-i-preserved c).In-loop-i i)
-    (octet-below (goal.at.loop-i-preserved c).In-loop-i (i + 1))
-    (octet-below (goal.at.loop-i-preserved c).In-loop-i (i + 2))
-    (octet-below (goal.at.loop-i-preserved c).In-loop-i (i + 3)) in
-    (omega arith, omega arith, subst (λ (r : ℕ). r < 0x10000) (sym register) (crc-below _ _ inv.2), four-more (lent (goal.at.loop-i-preserved c).In-loop-i) c.loop-i.c _ i _ (omega arith) inv.3 register)
+    (omega arith)
+    (omega arith)
+    (omega arith)
+    (omega arith) in
+    let size = step.1.1 ∙ inv.0 in (
+      step.0 ∙ inv.0,
+      omega (arith, ap length step.1.0, length-append four c.next.new.self.rest.now),
+      subst (λ (r : ℕ). r < 0x10000) (sym register) (crc-below _ _ inv.2),
+      four-more _ four _ c.loop-four.c _ _ inv.3 step.1.0 size register,
+    )
 
 pub returns : goal.returns
-returns c = none_left _ _ _ _ c.loop-i-test.false c.loop-i.invariant.3
+returns c = none_left c.loop-four.four-iterator.rest.now _ 0 _ (omega (arith, c.in-None.ensures.steps.1.0)) c.loop-four.invariant.3

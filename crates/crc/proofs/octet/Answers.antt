@@ -1,6 +1,5 @@
 -- `crc::octet` meets its contract. The loop's invariant: what is wanted is what the bits that are left make of the register.
 -- Assumes nothing.
--- an octet is not cut off where it moves up to the register's top
 use mathlib.Core.Path.{◌≡◌, sym, ◌∙◌, ap}
 use Prim.Native.Nat.{ℕ, suc, ◌+◌, ◌-◌, ◌*◌, ◌%◌, ◌≤◌, ◌<◌}
 use native.Mathlib.Omega.{arith}
@@ -8,6 +7,7 @@ use lib.Bits.{bit_xor}
 use Rattle.crc.specs.Crc.{bit, shifted, octet}
 use Rattle.crc.proofs.octet.Goals as goal
 
+-- an octet is not cut off where it moves up to the register's top
 enters : (c x : ℕ) → x < 0x100 → octet c x ≡ shifted 8 (bit_xor c (x * 0x100 % 0x10000))
 unfolding octet
 enters c x h =
@@ -26,14 +26,11 @@ none_left i r t h e =
     let left : 8 - i ≡ 0 = omega arith in
     sym (e ∙ ap (λ (n : ℕ). shifted n r) left)
 
-pub loop-i-init : goal.loop-i-init
-loop-i-init c = (omega arith, enters _ _ (omega arith))
+pub loop-init : goal.loop-init
+loop-init c = enters _ _ (omega arith)
 
-pub step-r-requires : goal.step-r-requires
-step-r-requires c = tt
-
-pub loop-i-preserved : goal.loop-i-preserved
-loop-i-preserved c = (omega arith, one_more _ _ _ _ (omega arith) c.loop-i.invariant.1 c.step-r.ensures)
+pub loop-preserved : goal.loop-preserved
+loop-preserved c = one_more _ _ _ _ (omega arith) c.loop.invariant c.step-r.ensures
 
 pub returns : goal.returns
-returns c = none_left _ _ _ (omega arith) c.loop-i.invariant.1
+returns c = none_left c.loop.counter _ _ (omega arith) c.loop.invariant

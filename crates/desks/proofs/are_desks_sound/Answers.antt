@@ -1,25 +1,24 @@
 -- `are_desks_sound` meets its contract. The loop's invariant: the octets of the first n desks are sound exactly if those from number i on
--- are. The measure is what is left of the n. Assumes nothing.
+-- are. Assumes nothing.
 use mathlib.Core.Path.{◌≡◌, refl, ap, ap₂, sym, ◌∙◌}
 use mathlib.Core.Bool.{true}
 use mathlib.Core.List.{List}
 use Prim.Native.Nat.{ℕ, ◌+◌, ◌-◌, ◌*◌, ◌≤◌, ◌<◌}
 use native.Mathlib.Numerals.{add-one}
 use native.Mathlib.Omega.{arith}
-use borrow.Author.Rules.{rules}
 use lib.ListN.{length, get_or, take}
 use lib.Seq.{length-take-le, get_or-take}
 use Rattle.octets.specs.Each.{each}
 use Rattle.octets.specs.Number.{part}
 use Rattle.octets.proofs.Decide.{told-true}
 use Rattle.octets.proofs.Each.{each_at}
-use Rattle.octets.proofs.Lists.{whole_part, unmap}
+use Rattle.octets.proofs.Lists.{whole_part}
 use Rattle.state.specs.declared.Desk.{Desk}
 use Rattle.state.specs.Slots.{empty_desk}
 use Rattle.state.specs.Sound.{desk_octets}
 use Rattle.state.specs.Decision.{desks_held, desk_holds}
 use Rattle.state.proofs.Exactly.{desk-exactly}
-use Rattle.state.proofs.Walk.{begins, settled, passed, ended}
+use Rattle.state.proofs.Walk.{settled, passed, ended}
 use Rattle.desks.proofs.are_desks_sound.Goals as goal
 
 -- the octets of desk i, as the code cuts them out
@@ -40,9 +39,6 @@ room n ds d i desks few e l h =
     let held = (told-true (desk-exactly (get_or (take n ds) i d)) holds).few in
     let same : (get_or (take n ds) i d).held ≡ (get_or ds i d).held = ap (λ (y : Desk). y.held) (get_or-take n ds i d h) in
     omega (arith, ap length (cut_out_lem i desks), whole_part desks (8198 * i) 8198 (omega arith))
-
-pub loop-i-init : goal.loop-i-init
-loop-i-init c = begins _ _ _ (search (rules, unmap))
 
 pub octets_held-requires : goal.octets_held-requires
 octets_held-requires c =

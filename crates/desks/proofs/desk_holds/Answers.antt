@@ -37,19 +37,19 @@ unfolding desk_holds
 returns-then-desk-gt-MOST c = search tests
 
 pub returns-in_default : goal.returns-in_default
-returns-in_default c = sym (high _ (omega arith) (no-counter _ c.checked-checked.ensures c.in_default.is))
+returns-in_default c = sym (high _ (omega arith) (no-counter _ c.checked.ensures c.in_default.is))
 
 pub returns-then-desk : goal.returns-then-desk
 returns-then-desk c =
-    let made = made-counter _ c.checked-checked.ensures c.in-Good.is in
-    sym (seen _ (omega arith) made.0 c.if-desk.true)
+    let made = made-counter _ c.checked.ensures c.in-Some.is in
+    c.if-desk.true ∙ sym (seen _ (omega arith) made.0 c.if-desk.true)
 
-pub returns-then-counter-ne0 : goal.returns-then-counter-ne0
-returns-then-counter-ne0 c =
-    let made = made-counter _ c.checked-checked.ensures c.in-Good.is in
-    sym (counted _ (omega arith) made.0 (search rules) (λ e. c.if-counter-ne0.true (made.1 ∙ e)))
+pub returns-else-counter-eq0 : goal.returns-else-counter-eq0
+returns-else-counter-eq0 c =
+    let made = made-counter _ c.checked.ensures c.in-Some.is in
+    ne_eqb _ _ c.if-counter-eq0.false ∙ sym (counted _ (omega arith) made.0 (search rules) (λ e. c.if-counter-eq0.false (made.1 ∙ e)))
 
-pub returns : goal.returns
-returns c =
-    let made = made-counter _ c.checked-checked.ensures c.in-Good.is in
-    sym (uncounted _ (omega arith) made.0 (search rules) (sym made.1 ∙ c.if-counter-ne0.false))
+pub returns-then-counter-eq0 : goal.returns-then-counter-eq0
+returns-then-counter-eq0 c =
+    let made = made-counter _ c.checked.ensures c.in-Some.is in
+    sym (uncounted _ (omega arith) made.0 (search rules) (sym made.1 ∙ c.if-counter-eq0.true))

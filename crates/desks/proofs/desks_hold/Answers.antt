@@ -1,27 +1,23 @@
--- `desks_hold` meets its contract. The loop's invariant: the first n desks hold what they may exactly if those from number i on do. The
--- measure is what is left of the n. Assumes nothing.
-use mathlib.Core.Path.{refl, sym, ◌∙◌}
-use native.Mathlib.Omega.{arith}
+-- `desks_hold` meets its contract: `all` asks each of the first n desks. Assumes nothing.
+use mathlib.Core.Path.{◌≡◌, refl, ap, ◌∙◌}
+use mathlib.Core.Bool.{◌&&◌}
+use mathlib.Core.List.{List, [], ◌∷◌}
 use borrow.Author.Rules.{rules}
+use lib.ListN.{take}
+use Rattle.std.specs.List.{list_all}
+use Rattle.std.proofs.lemmas.Iterator.{YieldsList-from_slice}
+use Rattle.std.proofs.lemmas.Iterator.Search.{all_from_yields_List}
 use Rattle.octets.specs.Each.{each}
-use Rattle.octets.proofs.Lists.{unmap}
-use Rattle.state.specs.Slots.{empty_desk}
-use Rattle.state.proofs.Walk.{begins, settled, passed, ended}
+use Rattle.state.specs.declared.Desk.{Desk}
+use Rattle.state.specs.Decision.{desk_holds}
 use Rattle.desks.proofs.desks_hold.Goals as goal
 
-pub loop-i-init : goal.loop-i-init
-loop-i-init c = begins _ _ _ (search (rules, unmap))
-
-pub returns-then-not-desk_holds : goal.returns-then-not-desk_holds
+asked : (xs : List Desk) → list_all desk_holds xs ≡ each desk_holds xs
 unfolding each
-returns-then-not-desk_holds c =
-    settled c.loop-i.invariant empty_desk (omega arith) (rw (sym c.desk_holds.ensures ∙ c.if-not-desk_holds.true))
-
-pub loop-i-preserved : goal.loop-i-preserved
-unfolding each
-loop-i-preserved c =
-    passed c.loop-i.invariant empty_desk (omega arith) (rw (sym c.desk_holds.ensures ∙ c.if-not-desk_holds.false))
+asked [] = refl
+asked (x ∷ xs) = ap (λ b. desk_holds x && b) (asked xs)
 
 pub returns : goal.returns
-unfolding each
-returns c = ended c.loop-i.invariant (omega arith) refl
+returns c =
+    let xs = take c.args.n c.args.desks in
+    all_from_yields_List desk_holds _ _ _ c.all.ensures.ran (YieldsList-from_slice xs cc) (λ x b q k. search rules) ∙ asked xs

@@ -54,10 +54,10 @@ returns-then-h-lt-HEADER c = sym (few _ _ (search granted) (omega arith))
 
 pub returns-in_default : goal.returns-in_default
 returns-in_default c =
-    let look = sym c.look_at-l.ensures in
+    let look = sym c.look_at.ensures in
     sym (header _ _ (search granted) look (omega arith) ∙ none_longer _ _ c.in_default.not-Good)
 
 pub returns : goal.returns
 returns c =
-    let look = sym c.look_at-l.ensures in
+    let look = sym c.look_at.ensures in
     sized _ _ (search granted) (look ∙ c.in-Good.is) (omega arith) c.size.ensures (search rules)

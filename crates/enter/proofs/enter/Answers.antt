@@ -1,14 +1,14 @@
 -- `enter::enter` meets its contract: the header's reasons come first. Assumes nothing.
+use Rattle.refusals.proofs.Passing.{passed_on}
 use Rattle.enter.proofs.Filing.{file-refused, file-read}
 use Rattle.enter.proofs.enter.Goals as goal
 
-pub returns-in-Refused : goal.returns-in-Refused
-returns-in-Refused c =
+pub returns-in_err-h : goal.returns-in_err-h
+returns-in_err-h c =
     let a = c.args in
-    file-refused a.buffer.now a.used a.f a.file.now c.read_header-answer.ensures.value c.in-Refused.is
+    rw (passed_on _ c.from_residual.ensures.1) (file-refused a.buffer.now a.used a.f a.file.now c.read_header.ensures.value c.in_err-h.was)
 
-pub returns-in-Read : goal.returns-in-Read
-returns-in-Read c =
+pub returns : goal.returns
+returns c =
     let a = c.args in
-    file-read a.buffer.now a.used a.f a.file.now c.read_header-answer.ensures.value c.in-Read.is c.entry_for.ensures
-    c.enter_entry.ensures
+    file-read a.buffer.now a.used a.f a.file.now c.read_header.ensures.value c.in_ok-h.was c.entry_for.ensures c.enter_entry.ensures

@@ -1,7 +1,6 @@
 -- `enter::enter_at` meets its contract: 34, or the sections written. Assumes nothing.
 use mathlib.Core.Path.{◌≡◌}
 use native.Mathlib.Omega.{arith}
-use native.Mathlib.Nat.{sub-zero}
 use lib.ListN.{length, take}
 use Rattle.catalogue.specs.Reading.{Ready}
 use Rattle.catalogue.specs.Entering.{entered}
@@ -13,14 +12,14 @@ use Rattle.enter.proofs.enter_at.Goals.{After-counts_with-counts, After-size_wit
 ready : (c : After-counts_with-counts) → let a = c.args in Ready a.buffer.now a.used a.at a.e c.counts_with-counts.result
 ready c =
     let p = c.requires in
-    is-ready p.0 c.args.e p.1 p.2 _ (sub-zero _) c.counts_with-counts.ensures
+    is-ready p.0 c.args.e p.1 p.2 c.counts_with-counts.ensures
 
 sized : (c : After-size_with-size) → let a = c.args in c.size_with-size.result ≡ length (entered (take a.used a.buffer.now) a.e)
 sized c = is-size (ready (goal.at.After-size_with-size c).After-counts_with-counts) (λ i. (c.slice_known-1.given i).fits) c.size_with-size.ensures
 
 pub counts_with-counts-requires : goal.counts_with-counts-requires
 counts_with-counts-requires c =
-    files-ready c.requires.0 (λ i. (c.slice_known-1.given i).fits) c.args.e c.requires.2 _ (sub-zero _)
+    files-ready c.requires.0 (λ i. (c.slice_known-1.given i).fits) c.args.e c.requires.2
 
 pub size_with-size-requires : goal.size_with-size-requires
 size_with-size-requires c = (few-at c.requires.0 (λ i. (c.slice_known-1.given i).fits)).1

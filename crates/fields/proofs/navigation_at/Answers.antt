@@ -11,6 +11,7 @@ unfolding navigation_at
 returns c =
     λ i.
     record {
+      name = c.name_at.ensures i;
       cfac = (to_z-of_z {w = w32} {z = c.i32_at.result} (search rules) ∙ c.i32_at.ensures) i;
       lfac = (to_z-of_z {w = w32} {z = c.i32_at-2.result} (search rules) ∙ c.i32_at-2.ensures) i;
       coff = (to_z-of_z {w = w32} {z = c.i32_at-3.result} (search rules) ∙ c.i32_at-3.ensures) i;

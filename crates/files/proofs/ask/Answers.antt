@@ -26,7 +26,7 @@ returns-then-is_complete c =
     asked-complete _ _ (sound (goal.at.returns-then-is_complete c).Else-not-is_sound) (omega arith) (sym c.is_held.ensures ∙ c.if-not-is_held.false)
     (sym c.is_complete.ensures ∙ c.if-is_complete.true)
 
-pub returns : goal.returns
-returns c =
-    asked-incomplete _ _ (sound (goal.at.returns c).Else-not-is_sound) (omega arith) (sym c.is_held.ensures ∙ c.if-not-is_held.false)
+pub returns-else-is_complete : goal.returns-else-is_complete
+returns-else-is_complete c =
+    asked-incomplete _ _ (sound (goal.at.returns-else-is_complete c).Else-not-is_sound) (omega arith) (sym c.is_held.ensures ∙ c.if-not-is_held.false)
     (sym c.is_complete.ensures ∙ c.if-is_complete.false)

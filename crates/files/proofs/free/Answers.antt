@@ -18,7 +18,7 @@ module _ (s : Station) (k : ℕ) (whole : Bool) where
   goes e f = rw (f, e)
 
 pub let_go-after-requires : goal.let_go-after-requires
-let_go-after-requires c = rw c.head-head.ensures (search rules)
+let_go-after-requires c = rw c.head.ensures (search rules)
 
 pub returns : goal.returns
-returns c = goes _ _ _ (rw c.head-head.ensures at c.let_go-after.ensures) refl
+returns c = goes _ _ _ (rw c.head.ensures at c.let_go-after.ensures) refl

@@ -12,9 +12,7 @@ use Rattle.state.specs.Slots.{slot_at}
 use Rattle.state.specs.Blocks.{numbers_of, table, blocks_of}
 use Rattle.state.specs.Sound.{Sized}
 use Rattle.room.specs.File.{joined}
-use Rattle.station.specs.Files.{counter_in, facts_in, told_as}
-use Rattle.station.specs.declared.Asked.TheVariants.{Complete}
-use Rattle.station.specs.declared.Told.TheVariants.{Known}
+use Rattle.station.specs.Files.{counter_in, facts_in}
 use Rattle.station.proofs.Asking.{sound-store}
 use Rattle.station.proofs.Counters.{counter-two}
 use Rattle.files.proofs.Holding.{fits-store, file-room}
@@ -27,9 +25,9 @@ module _ (s : Station) (store : List ℕ) (k : ℕ) where
   counted e f = rw (e, f, add-one k) (counter-two (joined store (blocks_of s k)))
 
   known : {n : ℕ} → n ≡ counter_in s store k
-      → Known (record { channel = (slot_at s k).channel; application = (slot_at s k).application; counter = n; bits = (slot_at s k).bits })
-      ≡ told_as s store (Complete k)
-  unfolding told_as facts_in
+      → record { channel = (slot_at s k).channel; application = (slot_at s k).application; counter = n; bits = (slot_at s k).bits }
+      ≡ facts_in s store k
+  unfolding facts_in
   known e = rw e
 
 pub copy_out-requires : goal.copy_out-requires

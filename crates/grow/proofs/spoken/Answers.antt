@@ -1,16 +1,17 @@
--- `grow::spoken` meets its contract: the loop counts each channel that has files. Assumes nothing.
+-- `grow::spoken` meets its contract: a channel has an entry if its count is not 0. Assumes nothing.
+use mathlib.Core.Path.{◌≡◌, ◌∙◌}
+use mathlib.Core.Bool.{not}
 use native.Mathlib.Omega.{arith}
-use Rattle.grow.proofs.Writing.{speaking, speak-skip, speak-more, speak-end}
+use borrow.Author.Rules.{rules}
+use Prim.Native.Nat.{ℕ}
+use lib.Dec.{eqb}
+use Rattle.std.specs.Prelude.{count_by}
+use Rattle.std.proofs.lemmas.List.Sums.{count_by-le-length}
+use Rattle.grow.proofs.Writing.{speaking}
 use Rattle.grow.proofs.spoken.Goals as goal
 
-pub loop-c-init : goal.loop-c-init
-loop-c-init c = speaking 63 _
-
-pub loop-c-preserved-then-counts-c-eq0 : goal.loop-c-preserved-then-counts-c-eq0
-loop-c-preserved-then-counts-c-eq0 c = speak-skip c.loop-c.invariant (omega arith) c.if-counts-c-eq0.true
-
-pub loop-c-preserved : goal.loop-c-preserved
-loop-c-preserved c = speak-more c.loop-c.invariant (omega arith) c.if-counts-c-eq0.false
-
 pub returns : goal.returns
-returns c = speak-end c.loop-c.invariant (omega arith)
+returns c =
+    let counts = c.args.counts in
+    let n : c.count.result ≡ count_by (λ (k : ℕ). not (eqb k 0)) counts = search rules in
+    (n ∙ speaking counts (search rules), omega (arith, n, count_by-le-length (λ (k : ℕ). not (eqb k 0)) counts))

@@ -3,6 +3,7 @@
 use mathlib.Core.Path.{◌≡◌, sym, ◌∙◌}
 use mathlib.Core.Bool.{true}
 use native.Mathlib.Omega.{arith}
+use Rattle.refusals.proofs.Passing.{passed_on}
 use Rattle.records.specs.Records.{starts_primary}
 use Rattle.records.proofs.Passing.{Whole}
 use Rattle.records.proofs.Answering.{says-20, says-21-type, says-21-length, starts_with, says-22-least, says-22-beyond, says-records, says-size, header-part}
@@ -32,16 +33,16 @@ returns-then-end-lt-SIZE c = sym (says-22-least _ _ (omega arith) (starts (goal.
 pub returns-then-end-file : goal.returns-then-end-file
 returns-then-end-file c = sym (says-22-beyond _ _ (omega arith) (starts (goal.at.returns-then-end-file c).Else-u16_at-ne-SIZE) (omega arith))
 
-pub returns-in-Refused : goal.returns-in-Refused
-returns-in-Refused c =
-    sym
-    (says-records _ _ (whole (goal.at.returns-in-Refused c).Else-end-file) (header-part _ c.u32_at-length.ensures) c.judge_records-judged.ensures _
-    c.in-Refused.is)
+pub returns-in_err-judge_records : goal.returns-in_err-judge_records
+returns-in_err-judge_records c =
+    passed_on _ c.from_residual.ensures.1 ∙ sym
+    (says-records _ _ (whole (goal.at.returns-in_err-judge_records c).Else-end-file) (header-part _ c.u32_at-length.ensures) c.judge_records.ensures _
+    c.in_err-judge_records.was)
 
-pub returns-in-Good : goal.returns-in-Good
-returns-in-Good c =
+pub returns : goal.returns
+returns c =
     c.judge_size.ensures
     ∙ rw (c.u64_at.ensures, c.u32_at-length.ensures)
     (sym
-    (says-size _ _ (whole (goal.at.returns-in-Good c).Else-end-file) (header-part _ c.u32_at-length.ensures) c.judge_records-judged.ensures
-    c.in-Good.is))
+    (says-size _ _ (whole (goal.at.returns c).Else-end-file) (header-part _ c.u32_at-length.ensures) c.judge_records.ensures
+    c.in_ok-judge_records.was))

@@ -1,7 +1,8 @@
 -- `header::judge_records` meets its contract. The invariant: the marks are those of the records before, and the records from here on decide.
 -- Assumes nothing.
-use mathlib.Core.Path.{sym}
+use mathlib.Core.Path.{sym, ◌∙◌}
 use native.Mathlib.Omega.{arith}
+use Rattle.refusals.proofs.Passing.{passed_on}
 use Rattle.records.proofs.Walk.{place-of}
 use Rattle.records.proofs.Marking.{judging-begins, judging-ends, judging-refused, judging-on}
 use Rattle.header.proofs.judge_records.Goals as goal
@@ -9,22 +10,16 @@ use Rattle.header.proofs.judge_records.Goals as goal
 pub loop-at-init : goal.loop-at-init
 loop-at-init c = judging-begins _ _
 
-pub bounds-seen-kind : goal.bounds-seen-kind
-bounds-seen-kind c = omega (arith, c.loop-at.invariant.marked.long)
+pub judge_record-requires : goal.judge_record-requires
+judge_record-requires c = omega (arith, place-of _ _ c.record_at-r.ensures)
 
-pub judge_record-judged-requires : goal.judge_record-judged-requires
-judge_record-judged-requires c = omega (arith, place-of _ _ c.record_at-r.ensures)
-
-pub returns-in-Refused : goal.returns-in-Refused
-returns-in-Refused c =
-    sym
+pub returns-in_err-judge_record : goal.returns-in_err-judge_record
+returns-in_err-judge_record c =
+    passed_on _ c.from_residual.ensures.1 ∙ sym
     (judging-refused _ c.loop-at.invariant c.record_at-r.ensures c.loop-at-test.true (omega arith)
-    c.judge_record-judged.ensures
+    c.judge_record.ensures
     _
-    c.in-Refused.is)
-
-pub bounds-seen-kind-in-Good : goal.bounds-seen-kind-in-Good
-bounds-seen-kind-in-Good c = omega (arith, c.loop-at.invariant.marked.long)
+    c.in_err-judge_record.was)
 
 pub next_place-at-requires : goal.next_place-at-requires
 next_place-at-requires c = omega (arith, place-of _ _ c.record_at-r.ensures)
@@ -35,9 +30,9 @@ loop-at-smaller c = omega (arith, place-of _ _ c.record_at-r.ensures)
 pub loop-at-preserved : goal.loop-at-preserved
 loop-at-preserved c =
     judging-on _ c.loop-at.invariant c.record_at-r.ensures c.loop-at-test.true (omega arith)
-    c.judge_record-judged.ensures
+    c.judge_record.ensures
     _
-    c.in-Good.is
+    c.in_ok-judge_record.was
     c.next_place-at.ensures.0
     c.next_place-at.ensures.1
 

@@ -10,6 +10,3 @@ returns-in-Short c = (search rules, rw c.in-Short.is c.word.ensures)
 pub returns-in-Bad : goal.returns-in-Bad
 unfolding packet_text
 returns-in-Bad c = (search rules, rw c.in-Bad.is c.word-in-Bad.ensures)
-
-pub returns-in-Good : goal.returns-in-Good
-returns-in-Good c = rw c.in-Good.is c.good_packet_answer.ensures

@@ -9,7 +9,7 @@ pub returns-in-Offset : goal.returns-in-Offset
 unfolding meaning_text
 returns-in-Offset c = (
   search rules,
-  rw (sym c.meaning-m.ensures ∙ c.in-Offset.is)
+  rw (sym c.meaning.ensures ∙ c.in-Offset.is)
       (behind c.number-end.ensures.1 c.with_number.ensures.1),
 )
 
@@ -17,7 +17,7 @@ pub returns-in-NoStart : goal.returns-in-NoStart
 unfolding meaning_text
 returns-in-NoStart c = (
   search rules,
-  rw (sym c.meaning-m.ensures ∙ c.in-NoStart.is)
+  rw (sym c.meaning.ensures ∙ c.in-NoStart.is)
       (behind c.number-end.ensures.1 c.word.ensures),
 )
 
@@ -25,6 +25,6 @@ pub returns-in-Refused : goal.returns-in-Refused
 unfolding meaning_text
 returns-in-Refused c = (
   search rules,
-  rw (sym c.meaning-m.ensures ∙ c.in-Refused.is)
+  rw (sym c.meaning.ensures ∙ c.in-Refused.is)
       (behind c.number-end.ensures.1 c.word-in-Refused.ensures),
 )

@@ -1,50 +1,34 @@
-use mathlib.Core.Path.{◌≡◌, sym, ◌∙◌, ap}
+use mathlib.Core.Path.{◌≡◌, sym, ap, ◌∙◌}
+use mathlib.Core.Bool.{true}
+use Prim.Native.Nat.{◌≤◌}
 use native.Mathlib.Omega.{arith}
 use borrow.Author.Rules.{rules}
 use lib.ListN.{length}
+use Rattle.std.proofs.lemmas.Grind.{common_steps}
+use Rattle.std.proofs.lemmas.Bool.Decides.{nat_tests}
+use Rattle.stream.specs.Hunter.{is_sound}
 use Rattle.stream.specs.Seek.{near}
-use borrow.Author.Tests.{not-true, not-false}
-use Rattle.hunter.proofs.Judging.{unbegun, over-three, over-size, few-waiting, no-marker, marker-waits}
+use Rattle.hunter.proofs.Judging.{near-number, few-waiting, marker-waits}
 use Rattle.hunter.proofs.is_sound.Goals as goal
+use Rattle.hunter.proofs.is_sound.Goals.{then-n-lt-SIZE+then-n-lt4, then-n-lt-SIZE+else-n-lt4, else-n-lt-SIZE}
 
-pub returns-then-not-h : goal.returns-then-not-h
-returns-then-not-h c = unbegun c.args.h (not-true _ c.if-not-h.true)
-
-pub returns-then-h-gt-MOST : goal.returns-then-h-gt-MOST
-returns-then-h-gt-MOST c = over-three c.args.h (not-false _ c.if-not-h.false) (omega arith)
-
-pub returns-then-n-ge-SIZE : goal.returns-then-n-ge-SIZE
-returns-then-n-ge-SIZE c =
-    over-size c.args.h (not-false _ c.if-not-h.false) (omega arith) (omega arith)
-
-pub all_zero-requires : goal.all_zero-requires
-all_zero-requires c =
-    let size : length c.args.h.octets ≡ 1024 = search rules in
-    (omega arith, omega arith)
-
-pub returns-then-n-lt4 : goal.returns-then-n-lt4
-returns-then-n-lt4 c =
-    c.all_zero.ensures ∙ few-waiting c.args.h (not-false _ c.if-not-h.false) (omega arith) (omega arith) (search rules) (omega arith)
-
-pub u32_at-four-requires : goal.u32_at-four-requires
-u32_at-four-requires c =
-    let size : length c.args.h.octets ≡ 1024 = search rules in
-    omega arith
-
-pub returns-then-not-is_near : goal.returns-then-not-is_near
-returns-then-not-is_near c =
+pub returns-then-is_near : goal.returns-then-is_near
+returns-then-is_near c =
     let h = c.args.h in
-    no-marker h (not-false _ c.if-not-h.false) (omega arith) (omega arith) (search rules) (omega arith)
-    (ap (near h.k) (sym c.u32_at-four.ensures) ∙ sym c.is_near.ensures ∙ c.if-not-is_near.true)
+    let size : length h.octets ≡ 1024 = search rules in
+    let begun : h.begun ≡ true = grind (arith, nat_tests) in
+    let k : h.k ≤ 3 = grind (arith, nat_tests) in
+    elim c.if-n-lt-SIZE.branch [
+      | then-n-lt-SIZE+then-n-lt4 w ↦ c.all_zero.ensures ∙ few-waiting h begun k (omega arith) size (omega arith)
+      | then-n-lt-SIZE+else-n-lt4 w ↦
+          c.all_zero.ensures
+          ∙ marker-waits h begun k (omega arith) size (omega arith)
+          (ap (near h.k) (sym w.u32_at.ensures) ∙ sym w.is_near.ensures ∙ sym w.value-is ∙ c.if-is_near.true)
+      | else-n-lt-SIZE w ↦ cc
+    ]
 
-pub all_zero-requires-2 : goal.all_zero-requires-2
-all_zero-requires-2 c =
-    let size : length c.args.h.octets ≡ 1024 = search rules in
-    (omega arith, omega arith)
-
-pub returns : goal.returns
-returns c =
+pub returns-else-is_near : goal.returns-else-is_near
+unfolding is_sound
+returns-else-is_near c =
     let h = c.args.h in
-    c.all_zero-2.ensures
-    ∙ marker-waits h (not-false _ c.if-not-h.false) (omega arith) (omega arith) (search rules) (omega arith)
-    (ap (near h.k) (sym c.u32_at-four.ensures) ∙ sym c.is_near.ensures ∙ c.if-not-is_near.false)
+    grind (arith, common_steps, nat_tests, near-number h.k h.octets)

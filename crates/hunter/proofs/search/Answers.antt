@@ -18,18 +18,6 @@ returns-then-n-ge4 c =
     let a = c.args in
     c.fill.ensures ∙ first-hunt a.h c.requires.sound a.portion.now a.buffer.now c.requires.room (omega arith)
 
-pub slide-requires : goal.slide-requires
-slide-requires c =
-    record { sound = c.requires.sound; few = omega arith; enough = omega arith; room = c.requires.room }
-
-pub returns-then-n-len : goal.returns-then-n-len
-returns-then-n-len c = c.slide.ensures
-
-pub copy-requires : goal.copy-requires
-copy-requires c =
-    let z = size (goal.at.copy-requires c).Start in
-    omega arith
-
 pub returns : goal.returns
 returns c =
     let a = c.args in

@@ -6,11 +6,11 @@ use Rattle.judge.proofs.Reading.{read-application, read-checked}
 use Rattle.judge.proofs.Rulings.{ruling-fill, ruling-other, ruling-damaged, ruling-file}
 use Rattle.judge.proofs.rule.Goals as goal
 
-pub returns-then-application-eq-FILL : goal.returns-then-application-eq-FILL
-returns-then-application-eq-FILL c = ruling-fill _ _ _ _ c.requires.1 (omega arith)
+pub returns-then-h-eq-FILL : goal.returns-then-h-eq-FILL
+returns-then-h-eq-FILL c = ruling-fill _ _ _ _ c.requires.1 (omega arith)
 
-pub returns-then-application-gt-LAST_FILE : goal.returns-then-application-gt-LAST_FILE
-returns-then-application-gt-LAST_FILE c =
+pub returns-then-h-gt-LAST_FILE : goal.returns-then-h-gt-LAST_FILE
+returns-then-h-gt-LAST_FILE c =
     ruling-other _ _ _ _ c.requires.1 (omega arith) (omega (arith, read-application c.requires.0 c.requires.1))
 
 pub intact-requires : goal.intact-requires

@@ -8,18 +8,18 @@ use Rattle.octets.proofs.Lists.{unmap}
 use Rattle.room.proofs.Find.{file-low}
 use Rattle.judge.proofs.Rulings.{file-new, file-over, file-stray, file-next}
 use Rattle.judge.proofs.rule_file.Goals as goal
-use Rattle.judge.proofs.rule_file.Goals.{In-At, In-At-file, Start}
+use Rattle.judge.proofs.rule_file.Goals.{In-Some, In-Some-file, Start}
 
 long : (c : Start) → length c.args.slots ≡ 32
 long c = search (rules, unmap)
 
-old-low : (c : In-At) → c.in-At.k < 32
+old-low : (c : In-Some) → c.in-Some.k < 32
 old-low c =
-    omega (arith, long (goal.at.In-At c).Start, file-low _ _ _ (sym c.file_of-file.ensures ∙ c.in-At.is))
+    omega (arith, long (goal.at.In-Some c).Start, file-low _ _ _ (sym c.file_of-file.ensures ∙ c.in-Some.is))
 
-next_low : (c : In-At-file) → c.in-At-file.k < 32
+next_low : (c : In-Some-file) → c.in-Some-file.k < 32
 next_low c =
-    omega (arith, long (goal.at.In-At-file c).Start, file-low _ _ _ (sym c.file_of-file.ensures ∙ c.in-At-file.is))
+    omega (arith, long (goal.at.In-Some-file c).Start, file-low _ _ _ (sym c.file_of-file.ensures ∙ c.in-Some-file.is))
 
 pub returns-in_default : goal.returns-in_default
 returns-in_default c =
@@ -32,7 +32,7 @@ rule_over-requires c =
 
 pub returns-then-starts_file : goal.returns-then-starts_file
 returns-then-starts_file c =
-    file-over _ _ _ _ _ c.file_of-file.ensures (sym c.starts_file.ensures ∙ c.if-starts_file.true) c.in-At.is c.rule_over.ensures
+    file-over _ _ _ _ _ c.file_of-file.ensures (sym c.starts_file.ensures ∙ c.if-starts_file.true) c.in-Some.is c.rule_over.ensures
 
 pub returns-in_default-file : goal.returns-in_default-file
 returns-in_default-file c =
@@ -43,4 +43,4 @@ rule_next-requires c = next_low c
 
 pub returns : goal.returns
 returns c =
-    file-next _ _ _ _ _ c.file_of-file.ensures (sym c.starts_file.ensures ∙ c.if-starts_file.false) c.in-At-file.is c.rule_next.ensures
+    file-next _ _ _ _ _ c.file_of-file.ensures (sym c.starts_file.ensures ∙ c.if-starts_file.false) c.in-Some-file.is c.rule_next.ensures

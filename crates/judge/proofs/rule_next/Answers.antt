@@ -8,6 +8,6 @@ pub returns-then-fits : goal.returns-then-fits
 unfolding goes_on
 returns-then-fits c = next-goes _ _ _ _ (sym c.fits.ensures ∙ c.if-fits.true)
 
-pub returns : goal.returns
+pub returns-else-fits : goal.returns-else-fits
 unfolding goes_on
-returns c = next-ends _ _ _ _ (sym c.fits.ensures ∙ c.if-fits.false)
+returns-else-fits c = next-ends _ _ _ _ (sym c.fits.ensures ∙ c.if-fits.false)

@@ -7,9 +7,9 @@ use Rattle.judge.specs.declared.Act.TheVariants.{Over}
 use Rattle.judge.specs.declared.Ruling.TheVariants.{Does}
 use Rattle.judge.proofs.rule_over.Goals as goal
 
-pub place_of-place-requires : goal.place_of-place-requires
-place_of-place-requires c =
-    rw c.none-empty.ensures (omega (arith, c.requires.1, needs-lower c.args.slots c.args.k))
+pub place_of-requires : goal.place_of-requires
+place_of-requires c =
+    rw c.none.ensures (omega (arith, c.requires.1, needs-lower c.args.slots c.args.k))
 
 pub returns : goal.returns
-returns c = ap (λ (p : Place). Does (Over c.args.k p)) (rw c.none-empty.ensures at c.place_of-place.ensures)
+returns c = ap (λ (p : Place). Does (Over c.args.k p)) (rw c.none.ensures at c.place_of.ensures)

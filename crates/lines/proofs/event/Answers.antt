@@ -8,5 +8,5 @@ returns c =
     let line = behind c.with_three-end.ensures.1 c.line_end.ensures.1 in
     record {
       upper_bound = search rules;
-      written = rw (c.wide-kind.ensures, c.wide-application.ensures, c.wide-slot.ensures) at line;
+      written = line;
     }

@@ -1,40 +1,38 @@
 -- `octets::number` meets its contract. The invariant: the number read so far is the one in the octets passed, and has eight bits for each.
 -- Assumes nothing.
-use mathlib.Core.Path.{◌≡◌}
-use Prim.Native.Nat.{◌+◌, ◌^◌, ◌<◌}
+use mathlib.Core.Path.{ap, ◌∙◌}
+use Prim.Native.Nat.{ℕ, ◌+◌, ◌-◌, ◌*◌, ◌^◌, ◌<◌}
 use native.Mathlib.Omega.{arith}
-use Rattle.octets.proofs.Numbers.{grow, free, number-none, number_more}
+use lib.ListN.{get_or}
+use Rattle.octets.specs.Number.{part}
+use Rattle.octets.proofs.Lists.{part_at}
+use Rattle.octets.proofs.Numbers.{octets-part, grow, free, number-none, number_more}
 use Rattle.octets.proofs.number.Goals as goal
-use Rattle.octets.proofs.number.Goals.{In-loop-i}
+use Rattle.octets.proofs.number.Goals.{In-loop-x}
 
 -- in a turn
-room : (c : In-loop-i) → c.loop-i.v < 2 ^ 56
-room c = free _ c.loop-i.i (omega arith) c.loop-i.invariant.1
+room : (c : In-loop-x) → c.loop-x.v < 2 ^ 56
+room c = free _ c.loop-x.x-index (omega arith) c.loop-x.invariant.0
 
-pub loop-i-init : goal.loop-i-init
-loop-i-init c = (omega arith, omega arith, number-none _ _)
+octet : (c : In-loop-x) → let a = c.args in get_or (part a.at (a.at + a.w - a.at) a.s.now) c.loop-x.x-index 0 < 256
+octet c = octets-part c.args.s.now c.args.at _ (λ i. (c.type_inv.s i).fits) c.loop-x.x-index
+
+pub loop-x-init : goal.loop-x-init
+loop-x-init c = (omega arith, number-none _ _)
 
 pub overflow_mul-v : goal.overflow_mul-v
 overflow_mul-v c = omega (arith, room c)
 
-pub overflow_cast-v : goal.overflow_cast-v
-overflow_cast-v c = omega (arith, c.type_inv.s (c.args.at + c.loop-i.i))
+pub overflow_add-v : goal.overflow_add-v
+overflow_add-v c =
+    let turn = (goal.at.overflow_add-v c).In-loop-x in
+    omega (arith, room turn, octet turn)
 
-pub overflow_add-v-in-loop-i : goal.overflow_add-v-in-loop-i
-overflow_add-v-in-loop-i c =
-    omega (
-      arith,
-      room (goal.at.overflow_add-v-in-loop-i c).In-loop-i,
-      c.type_inv.s (c.args.at + c.loop-i.i),
+pub loop-x-preserved : goal.loop-x-preserved
+loop-x-preserved c =
+    let a = c.args in
+    let inv = c.loop-x.invariant in (
+      grow _ _ _ inv.0 (octet (goal.at.loop-x-preserved c).In-loop-x),
+      ap (λ (x : ℕ). c.loop-x.v * 256 + x) (part_at a.s.now a.at _ c.loop-x.x-index 0 (omega arith))
+          ∙ number_more _ _ _ _ (omega arith) inv.1,
     )
-
-pub loop-i-preserved : goal.loop-i-preserved
-loop-i-preserved c =
-    let inv = c.loop-i.invariant in
-    (omega arith, grow _ _ _ inv.1 (c.type_inv.s _).fits, number_more _ _ _ _ (omega arith) inv.2)
-
-pub returns : goal.returns
-returns c =
-    let inv = c.loop-i.invariant in
-    let all : c.loop-i.i ≡ c.args.w = omega arith in
-    (rw all at inv.2, rw all at inv.1)

@@ -3,8 +3,5 @@ use native.Mathlib.Omega.{arith}
 use Rattle.octets.proofs.Numbers.{rounded-only}
 use Rattle.octets.proofs.rounded_up.Goals as goal
 
-pub returns-then-bits-eq0 : goal.returns-then-bits-eq0
-returns-then-bits-eq0 c = (rounded-only _ _ (omega arith) (omega arith), omega arith)
-
 pub returns : goal.returns
 returns c = (rounded-only _ _ (omega arith) (omega arith), omega arith)

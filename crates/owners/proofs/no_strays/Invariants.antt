@@ -1,17 +1,12 @@
--- `no_strays` meets its contract. The invariant: the tally from 33 on is blank exactly if the "or" so far is 0 and what is left is blank. The
--- measure is what is left of the 256. Assumes nothing.
+-- `no_strays` meets its contract. The invariant: the tally from 33 on is blank exactly if the "or" so far is 0 and what is left is blank.
+-- Assumes nothing.
 use mathlib.Core.Path.{◌≡◌}
 use mathlib.Core.Bool.{◌&&◌}
-use Prim.Native.Nat.{◌-◌, ◌≤◌}
+use Prim.Native.Nat.{◌-◌}
 use lib.Dec.{eqb}
-use lib.ListN.{length}
 use Rattle.octets.specs.Number.{part}
 use Rattle.octets.specs.Buffer.{all_zero}
 use Rattle.owners.proofs.no_strays.Given as goal
 
 abbrev pub invariant-loop-o : goal.invariant-loop-o
-invariant-loop-o l =
-    (l.initial.o ≡ 33) × (l.o ≤ 256) × (length l.tally ≡ 256) × (all_zero (part l.initial.o (256 - l.initial.o) l.tally) ≡ (eqb l.any 0 && all_zero (part l.o (256 - l.o) l.tally)))
-
-abbrev pub decreases-loop-o : goal.decreases-loop-o
-decreases-loop-o l = 256 - l.o
+invariant-loop-o l = all_zero (part 33 223 l.tally) ≡ (eqb l.any 0 && all_zero (part l.o (256 - l.o) l.tally))

@@ -5,4 +5,4 @@ use Rattle.printout.proofs.entry_at.Goals as goal
 
 pub returns : goal.returns
 returns c =
-    entry-made c.requires.0 c.args.i c.args.j (omega arith) c.file_entry-f.ensures c.image_for-image.ensures
+    entry-made c.requires.0 c.args.i c.args.j (omega arith) c.file_entry-f.ensures c.image_for.ensures

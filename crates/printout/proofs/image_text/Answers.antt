@@ -8,4 +8,4 @@ returns-in_default c = (search rules, rw c.in_default.is (nothing _ _))
 
 pub returns : goal.returns
 returns c =
-    (search rules, rw c.in-There.is (behind c.two_numbers-size.ensures.1 c.two_numbers.ensures.1))
+    (search rules, rw c.in-Some.is (behind c.two_numbers-size.ensures.1 c.two_numbers.ensures.1))

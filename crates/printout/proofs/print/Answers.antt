@@ -1,39 +1,43 @@
--- `printout::print` meets its contract. Assumes nothing.
--- the octets read, from where a catalogue was found in them
+-- `printout::print` meets its contract: the octets read, from where a catalogue was found in them. Assumes nothing.
 use native.Mathlib.Omega.{arith}
 use borrow.Author.Rules.{rules}
 use Rattle.catalogue.specs.Reading.{Lies}
 use Rattle.printout.proofs.Whole.{Few, lies, few, printed-all, printed-none}
 use Rattle.printout.proofs.print.Goals as goal
-use Rattle.printout.proofs.print.Goals.{In-At, Start}
+use Rattle.printout.proofs.print.Goals.{In-Some}
 
-abbrev start : In-At → Start
-start c = (goal.at.In-At c).Start
+in-places : (c : In-Some) → Lies c.args.s.now c.in-Some.at
+in-places c = lies c.args.s.now c.find.ensures c.in-Some.is
 
-in-places : (c : In-At) → Lies (start c).args.s.now c.in-At.at
-in-places c = lies (start c).args.s.now c.find-found.ensures c.in-At.is
+not-many : (c : In-Some) → Few c.in-Some.at
+not-many c = few c.args.s.now c.find.ensures c.in-Some.is
 
-not-many : (c : In-At) → Few c.in-At.at
-not-many c = few (start c).args.s.now c.find-found.ensures c.in-At.is
+pub returns-in_default : goal.returns-in_default
+returns-in_default c =
+    let line = c.refused_line.ensures in
+    (omega (arith, line.0), printed-none c.args.s.now c.find.ensures c.in_default.is line.1 (search (rules, line.0)))
 
 pub file_lines-files-requires : goal.file_lines-files-requires
-file_lines-files-requires c = (in-places (goal.at.file_lines-files-requires c).In-At, search (rules, (not-many (goal.at.file_lines-files-requires c).In-At).files))
+file_lines-files-requires c =
+    let place = (goal.at.file_lines-files-requires c).In-Some in
+    (in-places place, search (rules, (not-many place).files))
 
 pub channel_lines-channels-requires : goal.channel_lines-channels-requires
-channel_lines-channels-requires c = (in-places (goal.at.channel_lines-channels-requires c).In-At, search (rules, (not-many (goal.at.channel_lines-channels-requires c).In-At).files, (not-many (goal.at.channel_lines-channels-requires c).In-At).channels))
+channel_lines-channels-requires c =
+    let place = (goal.at.channel_lines-channels-requires c).In-Some in
+    let few = not-many place in
+    (in-places place, search (rules, few.files, few.channels))
 
 pub end_line-requires : goal.end_line-requires
-end_line-requires c = search (rules, (not-many (goal.at.end_line-requires c).In-At).files, (not-many (goal.at.end_line-requires c).In-At).channels)
+end_line-requires c =
+    let few = not-many (goal.at.end_line-requires c).In-Some in
+    search (rules, few.files, few.channels)
 
-pub returns-in-Nowhere : goal.returns-in-Nowhere
-returns-in-Nowhere c =
-    let line = c.refused_line.ensures in
-    (omega (arith, line.0), printed-none c.args.s.now c.find-found.ensures c.in-Nowhere.is line.1 (search (rules, line.0)))
-
-pub returns-in-At : goal.returns-in-At
-returns-in-At c =
+pub returns : goal.returns
+returns c =
+    let few = not-many (goal.at.returns c).In-Some in
     let end = c.end_line.ensures in (
-      search (rules, (not-many (goal.at.returns-in-At c).In-At).files, (not-many (goal.at.returns-in-At c).In-At).channels),
-      printed-all (start (goal.at.returns-in-At c).In-At).args.s.now c.find-found.ensures c.in-At.is c.file_lines-files.ensures.1
-          c.channel_lines-channels.ensures.1 end.1 (search (rules, (not-many (goal.at.returns-in-At c).In-At).files, (not-many (goal.at.returns-in-At c).In-At).channels)),
+      search (rules, few.files, few.channels),
+      printed-all c.args.s.now c.find.ensures c.in-Some.is c.file_lines-files.ensures.1 c.channel_lines-channels.ensures.1 end.1
+          (search (rules, few.files, few.channels)),
     )

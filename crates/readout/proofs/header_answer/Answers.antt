@@ -3,14 +3,14 @@ use borrow.Author.Rules.{rules}
 use Rattle.readout.specs.Readout.{header_text}
 use Rattle.readout.proofs.header_answer.Goals as goal
 
-pub returns-in-Refused : goal.returns-in-Refused
+pub returns-in-Err : goal.returns-in-Err
 unfolding header_text
-returns-in-Refused c = (
+returns-in-Err c = (
   search rules,
-  rw (← c.read_header-a.ensures.value, c.in-Refused.is) c.with_number.ensures.1,
+  rw (← c.read_header.ensures.value, c.in-Err.is) c.with_number.ensures.1,
 )
 
-pub returns-in-Read : goal.returns-in-Read
+pub returns-in-Ok : goal.returns-in-Ok
 unfolding header_text
-returns-in-Read c =
-    rw (← c.read_header-a.ensures.value, c.in-Read.is) c.fields.ensures
+returns-in-Ok c =
+    rw (← c.read_header.ensures.value, c.in-Ok.is) c.fields.ensures

@@ -12,5 +12,5 @@ pub returns : goal.returns
 unfolding image_text
 returns c = (
   search rules,
-  rw c.in-There.is (behind c.with_three-third.ensures.1 c.number.ensures.1),
+  rw c.in-Some.is (behind c.with_three-third.ensures.1 c.number.ensures.1),
 )

@@ -14,7 +14,7 @@ pub returns : goal.returns
 unfolding navigation_text
 returns c = (
   search rules,
-  let x = c.in-There.x in
+  let x = c.in-Some.x in
       let first = behind c.named-first.ensures.1 c.signed_pair-third.ensures.1 in
       let pairs =
       rw (
@@ -24,5 +24,5 @@ returns c = (
         same-field x.loff (omega arith),
       )
       at (behind first c.signed_pair.ensures.1) in
-      rw c.in-There.is pairs,
+      rw c.in-Some.is pairs,
 )

@@ -6,18 +6,18 @@ use Rattle.text.proofs.Following.{behind}
 use Rattle.readout.specs.Readout.{record_text}
 use Rattle.readout.proofs.record_answer.Goals as goal
 
-pub returns-in-Refused : goal.returns-in-Refused
+pub returns-in-Err : goal.returns-in-Err
 unfolding record_text
-returns-in-Refused c = (
+returns-in-Err c = (
   search rules,
-  rw (← whole-rest c.args.q.now 2, ← c.u16_at-n.ensures, sym c.read_record-a.ensures.value ∙ c.in-Refused.is)
+  rw (← whole-rest c.args.q.now 2, ← c.u16_at-n.ensures, sym c.read_record.ensures.value ∙ c.in-Err.is)
       c.with_number.ensures.1,
 )
 
-pub returns-in-Found : goal.returns-in-Found
+pub returns-in-Ok : goal.returns-in-Ok
 unfolding record_text
-returns-in-Found c = (
+returns-in-Ok c = (
   search rules,
-  rw (← whole-rest c.args.q.now 2, ← c.u16_at-n.ensures, sym c.read_record-a.ensures.value ∙ c.in-Found.is)
+  rw (← whole-rest c.args.q.now 2, ← c.u16_at-n.ensures, sym c.read_record.ensures.value ∙ c.in-Ok.is)
       (behind c.with_number-begun.ensures.1 c.numbers.ensures.1),
 )

@@ -12,5 +12,5 @@ pub returns : goal.returns
 unfolding segment_text
 returns c = (
   search rules,
-  rw c.in-There.is c.with_three.ensures.1,
+  rw c.in-Some.is c.with_three.ensures.1,
 )

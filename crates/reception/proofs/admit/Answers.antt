@@ -1,4 +1,6 @@
 -- `admit` meets its contract: each refusal in its turn, then those of the frame itself. Assumes nothing.
+use Rattle.refusals.specs.declared.Refusal.{Refusal}
+use Rattle.std.specs.Prelude.{Result, Ok}
 use mathlib.Core.Path.{◌≡◌, sym, ◌∙◌}
 use mathlib.Core.Bool.{true}
 use mathlib.Core.List.{List}
@@ -8,8 +10,6 @@ use lib.ListN.{take}
 use Rattle.octets.proofs.Lists.{unmap}
 use Rattle.frame.specs.declared.Accepted.{Accepted}
 use Rattle.frame.specs.declared.Channel.{Channel}
-use Rattle.frame.specs.declared.Examined.{Examined}
-use Rattle.frame.specs.declared.Examined.TheVariants.{Good}
 use Rattle.frame.specs.Header.{derandomised}
 use Rattle.frame.specs.Refusals.{examined, plain_after}
 use Rattle.frame.proofs.Answers.{good-framed}
@@ -51,8 +51,8 @@ orderly : (d : Else-not-are_desks_sound)
 orderly d = sym d.are_desks_sound.ensures ∙ d.if-not-are_desks_sound.false
 
 -- the scratch octets, where a frame was found good
-plain-good : (craft : ℕ) (watched : List Channel) (f before : List ℕ) {plain : List ℕ} {x : Examined} → x ≡ examined craft watched f
-    → plain ≡ plain_after f before → (a : Accepted) → x ≡ Good a → plain ≡ derandomised f
+plain-good : (craft : ℕ) (watched : List Channel) (f before : List ℕ) {plain : List ℕ} {x : Result Accepted Refusal} → x ≡ examined craft watched f
+    → plain ≡ plain_after f before → (a : Accepted) → x ≡ Ok a → plain ≡ derandomised f
 plain-good craft watched f before e p a g = p ∙ plain-framed f before (good-framed craft watched f a (sym e ∙ g))
 
 pub returns-then-not-lent_right : goal.returns-then-not-lent_right

@@ -16,22 +16,22 @@ sized : (i : Start) → Sized (state i)
 sized i =
     record { watched = search (rules, unmap); desks = search (rules, unmap); owner = search rules; slots = search (rules, unmap) }
 
-pub returns-in-Refused : goal.returns-in-Refused
-returns-in-Refused c =
-    record { desk_bound = search rules; outcome = desk-kept _ _ _ _ _ 0 (sym c.in-Refused.is ∙ c.admit-e.ensures.value) }
+pub returns-in-Err : goal.returns-in-Err
+returns-in-Err c =
+    record { desk_bound = search rules; outcome = desk-kept _ _ _ _ _ 0 (sym c.in-Err.is ∙ c.admit.ensures.value) }
 
 pub take_accepted-requires : goal.take_accepted-requires
 take_accepted-requires c =
-    let good = c.in-Good.is in
+    let good = c.in-Ok.is in
     let i = (goal.at.take_accepted-requires c).Start in
-    let (lent, desks) = walk-lent (sized i) (admits _ _ _ _ _ c.admit-e.ensures.value good) (zone-here _ (c.admit-e.ensures.plain_after _ good)) in
+    let (lent, desks) = walk-lent (sized i) (admits _ _ _ _ _ c.admit.ensures.value good) (zone-here _ (c.admit.ensures.plain_after _ good)) in
     record { lent = lent; desks_sound = desks }
 
-pub returns-in-Good : goal.returns-in-Good
-returns-in-Good c =
-    let good = c.in-Good.is in
+pub returns-in-Ok : goal.returns-in-Ok
+returns-in-Ok c =
+    let good = c.in-Ok.is in
     let took = c.take_accepted.ensures in
     record {
       desk_bound = took.desk_bound;
-      outcome = frame-taken _ _ _ _ _ (sym good ∙ c.admit-e.ensures.value) (zone-here _ (c.admit-e.ensures.plain_after _ good)) took.outcome;
+      outcome = frame-taken _ _ _ _ _ (sym good ∙ c.admit.ensures.value) (zone-here _ (c.admit.ensures.plain_after _ good)) took.outcome;
     }

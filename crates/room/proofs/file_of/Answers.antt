@@ -1,23 +1,15 @@
--- `room::file_of` meets its contract. The invariant: what is left to search gives the answer. Assumes nothing.
+-- `room::file_of` meets its contract: the search is `position`. Assumes nothing.
 use mathlib.Core.Path.{sym, ◌∙◌}
 use native.Mathlib.Omega.{arith}
-use borrow.Author.Rules.{rules}
-use Rattle.octets.proofs.Lists.{unmap}
-use Rattle.room.proofs.Find.{file-begins, seeking-on, seeking-here, seeking-none}
+use Rattle.std.proofs.lemmas.Iterator.{YieldsList-from_slice}
+use Rattle.std.proofs.lemmas.Iterator.Search.{position_from_yields_List}
+use Rattle.room.proofs.Find.{sought, file-first, found_first}
 use Rattle.room.proofs.file_of.Goals as goal
 
-pub loop-k-init : goal.loop-k-init
-loop-k-init c = file-begins _ _ _ (search (rules, unmap))
-
-pub returns-then-is_incomplete_of : goal.returns-then-is_incomplete_of
-returns-then-is_incomplete_of c =
-    let m = c.loop-k.invariant in
-    seeking-here m (omega arith) (sym c.is_incomplete_of.ensures ∙ c.if-is_incomplete_of.true)
-
-pub loop-k-preserved : goal.loop-k-preserved
-loop-k-preserved c =
-    let m = c.loop-k.invariant in
-    seeking-on m (omega arith) (sym c.is_incomplete_of.ensures ∙ c.if-is_incomplete_of.false)
-
 pub returns : goal.returns
-returns c = seeking-none c.loop-k.invariant (omega arith)
+returns c =
+    let a = c.args in
+    let f = sought a.channel a.application in
+    let e =
+    position_from_yields_List f _ _ c.position.result c.position.ensures.ran (YieldsList-from_slice a.slots cc) (λ x b q k. grind arith) in
+    found_first f a.slots e ∙ sym (file-first a.channel a.application 0 a.slots)

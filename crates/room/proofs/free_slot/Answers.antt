@@ -1,24 +1,14 @@
--- `room::free_slot` meets its contract. The invariant: what is left to search gives the answer. Assumes nothing.
-use mathlib.Core.Bool.{not}
-use mathlib.Core.Path.{sym, ◌∙◌, ap}
+-- `room::free_slot` meets its contract: the search is `position`. Assumes nothing.
+use mathlib.Core.Path.{sym, ◌∙◌}
 use native.Mathlib.Omega.{arith}
-use borrow.Author.Rules.{rules}
-use Rattle.octets.proofs.Lists.{unmap}
-use Rattle.room.proofs.Find.{free-begins, seeking-on, seeking-here, seeking-none}
+use Rattle.std.proofs.lemmas.Iterator.{YieldsList-from_slice}
+use Rattle.std.proofs.lemmas.Iterator.Search.{position_from_yields_List}
+use Rattle.room.proofs.Find.{free, free-first, found_first}
 use Rattle.room.proofs.free_slot.Goals as goal
 
-pub loop-k-init : goal.loop-k-init
-loop-k-init c = free-begins _ (search (rules, unmap))
-
-pub returns-then-not-is_held : goal.returns-then-not-is_held
-returns-then-not-is_held c =
-    let m = c.loop-k.invariant in
-    seeking-here m (omega arith) (ap not (sym c.is_held.ensures ∙ c.if-not-is_held.true))
-
-pub loop-k-preserved : goal.loop-k-preserved
-loop-k-preserved c =
-    let m = c.loop-k.invariant in
-    seeking-on m (omega arith) (ap not (sym c.is_held.ensures ∙ c.if-not-is_held.false))
-
 pub returns : goal.returns
-returns c = seeking-none c.loop-k.invariant (omega arith)
+returns c =
+    let xs = c.args.slots in
+    let e =
+    position_from_yields_List free _ _ c.position.result c.position.ensures.ran (YieldsList-from_slice xs cc) (λ x b q k. grind arith) in
+    found_first free xs e ∙ sym (free-first 0 xs)

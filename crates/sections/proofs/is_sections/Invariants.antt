@@ -1,10 +1,5 @@
-use Prim.Native.Nat.{◌-◌}
-use lib.ListN.{length}
 use Rattle.sections.proofs.Chain.{Chaining}
 use Rattle.sections.proofs.is_sections.Given as goal
 
-abbrev pub invariant-loop-k : goal.invariant-loop-k
-invariant-loop-k l = Chaining l.s l.at l.sizes l.k l.p
-
-abbrev pub decreases-loop-k : goal.decreases-loop-k
-decreases-loop-k l = length l.sizes - l.k
+abbrev pub invariant-loop-size : goal.invariant-loop-size
+invariant-loop-size l = Chaining l.s l.at l.sizes l.size-index l.p

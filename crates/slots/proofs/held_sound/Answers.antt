@@ -65,5 +65,5 @@ returns-in_default c =
 
 pub returns : goal.returns
 returns c =
-    let low = made-count _ c.checked-checked.ensures c.in-Good.is in
+    let low = made-count _ c.checked-checked.ensures c.in-Some.is in
     sym (counted _ _ _ (search rules) (omega arith) (search granted) (omega arith) (search granted) (omega arith) low)

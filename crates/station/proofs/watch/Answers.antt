@@ -1,5 +1,5 @@
 -- `watch` meets its contract: the constructor takes each of the good channels. The loop's invariant: the channels stored so far, those from place i
--- on, and what stands behind them all are what is wanted. The measure is what is left of the channels. Assumes nothing.
+-- on, and what stands behind them all are what is wanted. Assumes nothing.
 use mathlib.Core.Path.{◌≡◌, refl, sym, ap, ◌∙◌}
 use mathlib.Core.List.{List, ◌++◌, map, append-nil}
 use Prim.Native.Nat.{ℕ, zero, suc, ◌+◌, ◌-◌, ◌≤◌, ◌<◌}
@@ -34,7 +34,7 @@ pub loop-i-init : goal.loop-i-init
 loop-i-init c =
     let channels : List ℕ = c.args.channels.now in
     let rest = sym (drop-replicate 8 (length channels) (channel_of 0)) in
-    (omega arith, few-channels channels c.requires, refl, ap (λ (l : List Channel). map channel_of channels ++ l) rest)
+    (few-channels channels c.requires, refl, ap (λ (l : List Channel). map channel_of channels ++ l) rest)
 
 pub returns-in_default : goal.returns-in_default
 returns-in_default c =
@@ -46,10 +46,10 @@ returns-in_default c =
 
 pub loop-i-preserved : goal.loop-i-preserved
 loop-i-preserved c =
-    let made = made-channel _ c.checked-checked.ensures c.in-Good.is in
+    let made = made-channel _ c.checked-checked.ensures c.in-Some.is in
     let channels : List ℕ = c.args.channels.now in
-    (omega arith, omega arith, search rules, map_more channel_of channels c.loop-i.watched c.loop-i.i c.loop-i.invariant.3 0 made (omega arith) (omega arith))
+    (omega arith, search rules, map_more channel_of channels c.loop-i.watched c.loop-i.i c.loop-i.invariant.2 0 made (omega arith) (omega arith))
 
 pub returns : goal.returns
 returns c =
-    map-end channel_of c.args.channels.now c.loop-i.watched c.loop-i.i c.loop-i.invariant.3 (omega arith)
+    map-end channel_of c.args.channels.now c.loop-i.watched c.loop-i.i c.loop-i.invariant.2 (omega arith)

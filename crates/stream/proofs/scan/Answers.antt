@@ -1,16 +1,7 @@
-use mathlib.Core.Path.{refl, sym, ◌∙◌}
+use mathlib.Core.Path.{sym, ◌∙◌}
 use native.Mathlib.Omega.{arith}
 use Rattle.stream.proofs.Seeking.{seek_found, seek-more, seek-end}
 use Rattle.stream.proofs.scan.Goals as goal
-
-pub loop-i-init : goal.loop-i-init
-loop-i-init c = refl
-
-pub overflow_cast-four : goal.overflow_cast-four
-overflow_cast-four c = omega (arith, c.type_inv.portion c.loop-i.i)
-
-pub overflow_add-four : goal.overflow_add-four
-overflow_add-four c = omega (arith, c.type_inv.portion c.loop-i.i)
 
 pub returns-then-is_near : goal.returns-then-is_near
 returns-then-is_near c =

@@ -7,6 +7,3 @@ use Rattle.stream.proofs.scan.Given as goal
 abbrev pub invariant-loop-i : goal.invariant-loop-i
 invariant-loop-i l =
     sought_in l.k l.from l.v (part l.from (l.to - l.from) l.portion) ≡ sought_in l.k l.i l.four (part l.i (l.to - l.i) l.portion)
-
-abbrev pub decreases-loop-i : goal.decreases-loop-i
-decreases-loop-i l = l.to - l.i

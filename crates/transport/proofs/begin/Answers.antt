@@ -1,47 +1,31 @@
--- `transport::begin` meets its contract: a `Wrong` by each of its tests, and what the shape decides. Assumes nothing.
--- past the test of the length
-use mathlib.Core.Bool.{true, false}
+-- `transport::begin` meets its contract: nothing by each of its tests, and what the shape decides. Assumes nothing.
+use Rattle.std.specs.Prelude.{if◌then◌else◌, Bool, true, false, Some, None}
+use Rattle.std.specs.Bool.{then_some}
+use mathlib.Core.Path.{◌≡◌, refl, sym, ◌∙◌}
 use native.Mathlib.Omega.{arith}
-use borrow.Author.Tests.{ne_eqb}
-use Rattle.octets.proofs.Tests.{tests, denied, granted}
+use Rattle.octets.proofs.Tests.{tests}
 use Rattle.transport.specs.Shape.{begun_of}
-use Rattle.transport.proofs.Begins.{LengthRight, length-wrong, shape-decides}
+use Rattle.transport.proofs.Begins.{length-wrong, shape-decides}
 use Rattle.transport.proofs.begin.Goals as goal
-use Rattle.transport.proofs.begin.Goals.{Else-not-good_length}
+use Rattle.transport.proofs.begin.Goals.{in-1, in-3, in_default}
 
-ready : (c : Else-not-good_length) → LengthRight c.args.«data».now c.read-t.result
-ready c = record {
-  long = omega arith;
-  is = c.read-t.ensures;
-  good = granted c.good_length.ensures c.if-not-good_length.false-raw;
-}
+chosen : {A : Type 0} (b : Bool) (x : A) → then_some b x ≡ (if b then Some x else None)
+chosen true x = refl
+chosen false x = refl
 
 pub returns-then-data-lt-HEADER : goal.returns-then-data-lt-HEADER
 unfolding begun_of
 returns-then-data-lt-HEADER c = search tests
 
 pub returns-then-not-good_length : goal.returns-then-not-good_length
-returns-then-not-good_length c = length-wrong _ _ (omega arith) c.read-t.ensures (denied c.good_length.ensures c.if-not-good_length.true-raw)
-
-pub returns-then-first_fits : goal.returns-then-first_fits
-returns-then-first_fits c =
-    shape-decides _ (ready (goal.at.returns-then-first_fits c).Else-not-good_length) true
-    (rw (c.if-flags-eq-FIRST.true, ← c.first_fits.ensures, c.if-first_fits.true))
-
-pub returns-then-flags-eq-FIRST : goal.returns-then-flags-eq-FIRST
-returns-then-flags-eq-FIRST c =
-    shape-decides _ (ready (goal.at.returns-then-flags-eq-FIRST c).Else-not-good_length) false
-    (rw (c.if-flags-eq-FIRST.true, ← c.first_fits.ensures, c.if-first_fits.false))
-
-pub returns-then-whole_fits : goal.returns-then-whole_fits
-returns-then-whole_fits c =
-    shape-decides _ (ready (goal.at.returns-then-whole_fits c).Else-not-good_length) true
-    (rw (c.if-flags-eq-WHOLE.true, ← c.whole_fits.ensures, c.if-whole_fits.true))
-
-pub returns-then-flags-eq-WHOLE : goal.returns-then-flags-eq-WHOLE
-returns-then-flags-eq-WHOLE c =
-    shape-decides _ (ready (goal.at.returns-then-flags-eq-WHOLE c).Else-not-good_length) false
-    (rw (c.if-flags-eq-WHOLE.true, ← c.whole_fits.ensures, c.if-whole_fits.false))
+returns-then-not-good_length c = length-wrong _ _ (omega arith) c.read-t.ensures (sym c.if-not-good_length.ensures)
 
 pub returns : goal.returns
-returns c = shape-decides _ (ready (goal.at.returns c).Else-not-good_length) false (rw (ne_eqb _ _ c.if-flags-eq-FIRST.false, ne_eqb _ _ c.if-flags-eq-WHOLE.false))
+returns c =
+    c.then_some.ensures ∙ chosen _ _
+    ∙ shape-decides _ (record { long = omega arith; is = c.read-t.ensures; good = sym c.if-not-good_length.ensures }) c.match-flags.shaped
+    (elim c.match-flags.branch [
+      | in-1 w ↦ grind (arith, w.in-1.is, w.shaped-is, w.first_fits-shaped.ensures)
+      | in-3 w ↦ grind (arith, w.in-3.is, w.shaped-is, w.whole_fits-shaped.ensures)
+      | in_default w ↦ grind (arith, w.shaped-is)
+    ])

@@ -1,13 +1,12 @@
 -- `transport::first_fits` meets its contract, by its tests. Assumes nothing.
-use borrow.Author.Tests.{eq-eqb}
-use Rattle.octets.proofs.Tests.{tests}
+use native.Mathlib.Omega.{arith}
 use Rattle.transport.specs.Shape.{first_fits}
 use Rattle.transport.proofs.first_fits.Goals as goal
 
-pub returns-then-n-ne-BLOCK : goal.returns-then-n-ne-BLOCK
+pub returns-then-n-eq-BLOCK : goal.returns-then-n-eq-BLOCK
 unfolding first_fits
-returns-then-n-ne-BLOCK c = search tests
+returns-then-n-eq-BLOCK c = grind arith
 
-pub returns : goal.returns
+pub returns-else-n-eq-BLOCK : goal.returns-else-n-eq-BLOCK
 unfolding first_fits
-returns c = rw (eq-eqb _ _ c.if-n-ne-BLOCK.false, c.need.ensures)
+returns-else-n-eq-BLOCK c = grind arith

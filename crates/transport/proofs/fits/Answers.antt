@@ -1,24 +1,24 @@
 -- `transport::fits` meets its contract: the flags choose the shape. Assumes nothing.
-use Rattle.octets.proofs.Tests.{tests}
+use native.Mathlib.Omega.{arith}
 use Rattle.transport.specs.Shape.{fits}
 use Rattle.transport.proofs.fits.Goals as goal
 
-pub returns-then-flags-eq-FIRST : goal.returns-then-flags-eq-FIRST
+pub returns-in-1 : goal.returns-in-1
 unfolding fits
-returns-then-flags-eq-FIRST c = search tests
+returns-in-1 c = grind arith
 
-pub returns-then-flags-eq-WHOLE : goal.returns-then-flags-eq-WHOLE
+pub returns-in-3 : goal.returns-in-3
 unfolding fits
-returns-then-flags-eq-WHOLE c = search tests
+returns-in-3 c = grind arith
 
-pub returns-then-flags-eq-MIDDLE : goal.returns-then-flags-eq-MIDDLE
+pub returns-in-0 : goal.returns-in-0
 unfolding fits
-returns-then-flags-eq-MIDDLE c = search tests
+returns-in-0 c = grind arith
 
-pub returns-then-flags-eq-LAST : goal.returns-then-flags-eq-LAST
+pub returns-in-2 : goal.returns-in-2
 unfolding fits
-returns-then-flags-eq-LAST c = search tests
+returns-in-2 c = grind arith
 
-pub returns : goal.returns
+pub returns-in_default : goal.returns-in_default
 unfolding fits
-returns c = search tests
+returns-in_default c = grind arith

@@ -6,19 +6,19 @@ use Rattle.vectors.specs.Kept.{kept}
 use Rattle.vectors.proofs.Coming.{came-more, came-all}
 use Rattle.vectors.proofs.take_in.Goals as goal
 
-pub loop-i-init : goal.loop-i-init
-loop-i-init c = (search rules, search rules, refl)
+pub loop-x-init : goal.loop-x-init
+loop-x-init c = (search rules, search rules, refl)
 
-pub loop-i-preserved : goal.loop-i-preserved
-loop-i-preserved c =
-    let l = c.loop-i in
+pub loop-x-preserved : goal.loop-x-preserved
+loop-x-preserved c =
+    let l = c.loop-x in
     let octets = c.args.came.now in (
       search rules,
       search rules,
-      came-more octets l.i (kept l.n l.line l.out) l.invariant.2 _ (omega arith) c.take_octet-n.ensures,
+      came-more octets l.x-index (kept l.n l.line l.out) l.invariant.2 _ (omega arith) c.take_octet-n.ensures,
     )
 
 pub returns : goal.returns
 returns c =
-    let l = c.loop-i in
-    came-all c.args.came.now l.i (kept l.n l.line l.out) l.invariant.2 (omega arith)
+    let l = c.loop-x in
+    came-all c.args.came.now l.x-index (kept l.n l.line l.out) l.invariant.2 (omega arith)

@@ -8,7 +8,7 @@ use Rattle.octets.proofs.Lists.{unmap}
 use Rattle.state.specs.Slots.{station_of}
 use Rattle.state.specs.Sound.{Sized}
 use Rattle.state.proofs.Places.{needs-fit}
-use Rattle.zone.proofs.Turns.{Walking, begins, same-list, stops-here, Taken, taken, inside, smallest, packet-here, header-here, skips, says, ready, turns}
+use Rattle.zone.proofs.Turns.{Walking, begins, stops-here, Taken, taken, inside, packet-here, header-here, skips, says, ready, turns}
 use Rattle.walk.proofs.walk.Goals as goal
 use Rattle.walk.proofs.walk.Goals.{After-size, At-loop-bad, Start}
 
@@ -37,62 +37,37 @@ walking z = (turn z).loop-bad.invariant
 -- and that packet
 here : (z : After-size)
     → Taken (drop (turn z).loop-bad.at (start z).args.zone.now) z.in-Take.h z.size.result
-here z = taken (walking z) z.next_at-next.ensures z.in-Take.is z.size.ensures
+here z = taken (walking z) z.next_at.ensures z.in-Take.is z.size.ensures
 
 pub loop-bad-init : goal.loop-bad-init
 loop-bad-init c = begins _ _ _ _ _ _ _ (sized (goal.at.loop-bad-init c).Start) c.requires
 
-pub next_at-next-requires : goal.next_at-next-requires
-next_at-next-requires c = omega (arith, c.loop-bad.invariant.going.within)
-
-pub shape_of-list-in-End : goal.shape_of-list-in-End
-shape_of-list-in-End c = same-list c.loop-bad.invariant
-
 pub returns-in-End : goal.returns-in-End
-returns-in-End c = stops-here c.loop-bad.invariant c.next_at-next.ensures c.in-End.is
-
-pub overflow_add-end : goal.overflow_add-end
-overflow_add-end c = omega (arith, inside (walking c) (here c), (walking c).going.short)
+returns-in-End c = stops-here c.loop-bad.invariant c.next_at.ensures c.in-End.is
 
 pub slice_bounds-packet-end : goal.slice_bounds-packet-end
 slice_bounds-packet-end c = omega (arith, inside (walking c) (here c))
 
-pub rule-ruling-requires : goal.rule-ruling-requires
-rule-ruling-requires c =
-    let w = walking (goal.at.rule-ruling-requires c).After-size in
-    (packet-here w (here (goal.at.rule-ruling-requires c).After-size), header-here w (here (goal.at.rule-ruling-requires c).After-size), needs-fit w.sized w.going.sound)
-
-pub loop-bad-smaller-in-Skips : goal.loop-bad-smaller-in-Skips
-loop-bad-smaller-in-Skips c =
-    omega (arith, inside (walking (goal.at.loop-bad-smaller-in-Skips c).After-size) (here (goal.at.loop-bad-smaller-in-Skips c).After-size), smallest (walking (goal.at.loop-bad-smaller-in-Skips c).After-size) (here (goal.at.loop-bad-smaller-in-Skips c).After-size))
+pub rule-requires : goal.rule-requires
+rule-requires c =
+    let w = walking (goal.at.rule-requires c).After-size in
+    (packet-here w (here (goal.at.rule-requires c).After-size), header-here w (here (goal.at.rule-requires c).After-size), needs-fit w.sized w.going.sound)
 
 pub loop-bad-preserved-in-Skips : goal.loop-bad-preserved-in-Skips
 loop-bad-preserved-in-Skips c =
-    turns (walking (goal.at.loop-bad-preserved-in-Skips c).After-size) (here (goal.at.loop-bad-preserved-in-Skips c).After-size) (skips (walking (goal.at.loop-bad-preserved-in-Skips c).After-size) (here (goal.at.loop-bad-preserved-in-Skips c).After-size) c.rule-ruling.ensures c.in-Skips.is)
-
-pub emit-events-requires : goal.emit-events-requires
-emit-events-requires c =
-    omega (arith, (ready (walking (goal.at.emit-events-requires c).After-size) (here (goal.at.emit-events-requires c).After-size)).enough)
-
-pub loop-bad-smaller-in-Says : goal.loop-bad-smaller-in-Says
-loop-bad-smaller-in-Says c =
-    omega (arith, inside (walking (goal.at.loop-bad-smaller-in-Says c).After-size) (here (goal.at.loop-bad-smaller-in-Says c).After-size), smallest (walking (goal.at.loop-bad-smaller-in-Says c).After-size) (here (goal.at.loop-bad-smaller-in-Says c).After-size))
+    turns (walking (goal.at.loop-bad-preserved-in-Skips c).After-size) (here (goal.at.loop-bad-preserved-in-Skips c).After-size) (skips (walking (goal.at.loop-bad-preserved-in-Skips c).After-size) (here (goal.at.loop-bad-preserved-in-Skips c).After-size) c.rule.ensures c.in-Skips.is)
 
 pub loop-bad-preserved-in-Says : goal.loop-bad-preserved-in-Says
 loop-bad-preserved-in-Says c =
     let told = c.emit-events.ensures in
     turns (walking (goal.at.loop-bad-preserved-in-Says c).After-size) (here (goal.at.loop-bad-preserved-in-Says c).After-size)
-    (says (walking (goal.at.loop-bad-preserved-in-Says c).After-size) (here (goal.at.loop-bad-preserved-in-Says c).After-size) c.rule-ruling.ensures c.in-Says.is told.value told.list_after)
+    (says (walking (goal.at.loop-bad-preserved-in-Says c).After-size) (here (goal.at.loop-bad-preserved-in-Says c).After-size) c.rule.ensures c.in-Says.is told.value told.list_after)
 
 pub carry_out-told-requires : goal.carry_out-told-requires
 carry_out-told-requires c =
     let w = walking (goal.at.carry_out-told-requires c).After-size in
     let h = here (goal.at.carry_out-told-requires c).After-size in
-    record { ready = ready w h; whole = (packet-here w h, header-here w h, sym c.rule-ruling.ensures ∙ c.in-Does.is) }
-
-pub loop-bad-smaller : goal.loop-bad-smaller
-loop-bad-smaller c =
-    omega (arith, inside (walking (goal.at.loop-bad-smaller c).After-size) (here (goal.at.loop-bad-smaller c).After-size), smallest (walking (goal.at.loop-bad-smaller c).After-size) (here (goal.at.loop-bad-smaller c).After-size))
+    record { ready = ready w h; whole = (packet-here w h, header-here w h, sym c.rule.ensures ∙ c.in-Does.is) }
 
 pub loop-bad-preserved : goal.loop-bad-preserved
 loop-bad-preserved c =

@@ -1,15 +1,11 @@
 -- `walk::walk_rest` holds what the walk leaves, and tells a bad header. Assumes nothing.
-use Rattle.walk.proofs.Ends.{going, settling, ends-settled}
+use Rattle.walk.proofs.Ends.{settling, ends-settled}
 use Rattle.walk.proofs.walk_rest.Goals as goal
 use Rattle.walk.proofs.walk_rest.Goals.{After-walk-w, Start}
 
 -- where the code begins, from where the zone was walked
 abbrev start : After-walk-w → Start
 start w = (goal.at.After-walk-w w).Start
-
-pub walk-w-requires : goal.walk-w-requires
-walk-w-requires c =
-    going c.requires.lent c.requires.from_bound.0 c.requires.from_bound.1
 
 pub settle-left-requires : goal.settle-left-requires
 settle-left-requires c =

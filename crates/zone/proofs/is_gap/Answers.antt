@@ -7,6 +7,6 @@ pub returns-then-d : goal.returns-then-d
 unfolding gap
 returns-then-d c = rw (c.if-d.true, c.follows.ensures)
 
-pub returns : goal.returns
+pub returns-else-d : goal.returns-else-d
 unfolding gap
-returns c = search rules
+returns-else-d c = search rules

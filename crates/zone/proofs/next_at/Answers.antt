@@ -8,23 +8,23 @@ use Rattle.zone.proofs.next_at.Goals as goal
 pub returns-in-Short : goal.returns-in-Short
 returns-in-Short c =
     let i = c.args in
-    sym (next-short (drop i.at i.zone.now) (seen i.zone.now i.at c.look_at-look.ensures c.in-Short.is))
+    sym (next-short (drop i.at i.zone.now) (seen i.zone.now i.at c.look_at.ensures c.in-Short.is))
 
 pub returns-in-Bad : goal.returns-in-Bad
 returns-in-Bad c =
     let i = c.args in
-    sym (next-bad (drop i.at i.zone.now) (seen i.zone.now i.at c.look_at-look.ensures c.in-Bad.is))
+    sym (next-bad (drop i.at i.zone.now) (seen i.zone.now i.at c.look_at.ensures c.in-Bad.is))
 
 pub returns-then-zone-at : goal.returns-then-zone-at
 returns-then-zone-at c =
     let i = c.args in
     sym
-    (next-part (drop i.at i.zone.now) (seen i.zone.now i.at c.look_at-look.ensures c.in-Good.is)
-    (omega (arith, c.size-size.ensures, length-drop i.at i.zone.now)))
+    (next-part (drop i.at i.zone.now) (seen i.zone.now i.at c.look_at.ensures c.in-Good.is)
+    (omega (arith, c.size.ensures, length-drop i.at i.zone.now)))
 
-pub returns-in-Good : goal.returns-in-Good
-returns-in-Good c =
+pub returns-else-zone-at : goal.returns-else-zone-at
+returns-else-zone-at c =
     let i = c.args in
     sym
-    (next-whole (drop i.at i.zone.now) (seen i.zone.now i.at c.look_at-look.ensures c.in-Good.is)
-    (omega (arith, c.size-size.ensures, length-drop i.at i.zone.now)))
+    (next-whole (drop i.at i.zone.now) (seen i.zone.now i.at c.look_at.ensures c.in-Good.is)
+    (omega (arith, c.size.ensures, length-drop i.at i.zone.now)))

@@ -1,7 +1,6 @@
 -- `zone::sequel_of` is the definition `sequel_of` of what stands at the packet's start. Assumes nothing.
 use mathlib.Core.Path.{◌≡◌, refl, sym, ◌∙◌}
 use Prim.Native.Nat.{ℕ}
-use native.Mathlib.Omega.{arith}
 use Rattle.frame.specs.declared.Pointer.{Pointer}
 use Rattle.packet.specs.declared.Packet.{Packet}
 use Rattle.packet.specs.declared.Look.{Look}
@@ -18,22 +17,14 @@ no_header Bad held p e f = sequel-spoilt p held refl
 no_header (Good h) held p e f = absurd (f h e)
 
 pub returns-in_default : goal.returns-in_default
-returns-in_default c = no_header _ _ _ c.look_at-look.ensures c.in_default.not-Good
-
-pub overflow_sub-size : goal.overflow_sub-size
-overflow_sub-size c =
-    omega (
-      arith,
-      c.requires _ (sym c.look_at-look.ensures ∙ c.in-Good.is),
-      c.size-size.ensures,
-    )
+returns-in_default c = no_header _ _ _ c.look_at.ensures c.in_default.not-Good
 
 pub returns-then-agrees : goal.returns-then-agrees
 returns-then-agrees c =
-    sequel-agrees _ _ (sym c.look_at-look.ensures ∙ c.in-Good.is)
+    sequel-agrees _ _ (sym c.look_at.ensures ∙ c.in-Good.is)
     c.size-size.ensures c.agrees.ensures c.if-agrees.true
 
 pub returns : goal.returns
 returns c =
-    sequel-differs _ _ (sym c.look_at-look.ensures ∙ c.in-Good.is)
+    sequel-differs _ _ (sym c.look_at.ensures ∙ c.in-Good.is)
     c.size-size.ensures c.agrees.ensures c.if-agrees.false

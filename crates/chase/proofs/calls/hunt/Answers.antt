@@ -1,5 +1,6 @@
 -- `chase::calls::hunt` meets its contract. Assumes nothing.
 use native.Mathlib.Omega.{arith}
+use borrow.Author.Rules.{rules}
 use Rattle.chase.proofs.Hunting.{hunt-done, hunt-told}
 use Rattle.chase.proofs.calls.hunt.Goals as goal
 
@@ -10,5 +11,5 @@ returns c =
     let line = c.check_line-end.ensures in
     record {
       buffer_after = hunt-done a.x a.h _ _ e;
-      end_bound = (line.0, hunt-told a.x a.h _ _ e line.1 (omega arith) (omega arith) c.as_number-found.ensures);
+      end_bound = (line.0, hunt-told a.x a.h _ _ e line.1 (omega arith) (omega arith) (search rules));
     }

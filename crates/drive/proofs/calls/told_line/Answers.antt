@@ -3,12 +3,12 @@ use native.Mathlib.Omega.{arith}
 use Rattle.drive.proofs.Outcomes.{refused-told, known-told}
 use Rattle.drive.proofs.calls.told_line.Goals as goal
 
-pub returns-in-Refused : goal.returns-in-Refused
-returns-in-Refused c =
+pub returns-in-Err : goal.returns-in-Err
+returns-in-Err c =
     let line = c.answer_line.ensures in
-    (omega (arith, line.0), refused-told c.in-Refused.is line.1)
+    (omega (arith, line.0), refused-told c.in-Err.is line.1)
 
-pub returns-in-Known : goal.returns-in-Known
-returns-in-Known c =
+pub returns-in-Ok : goal.returns-in-Ok
+returns-in-Ok c =
     let line = c.told_line.ensures in
-    (omega (arith, line.0), known-told c.in-Known.is line.1)
+    (omega (arith, line.0), known-told c.in-Ok.is line.1)

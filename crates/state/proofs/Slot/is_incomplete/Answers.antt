@@ -1,13 +1,11 @@
--- `Slot::is_incomplete` meets its contract, by its test and the contract of `need`. Assumes nothing.
-use borrow.Author.Tests.{ne_eqb}
-use Rattle.octets.proofs.Tests.{tests}
-use Rattle.state.specs.Slots.{held, incomplete}
+-- `Slot::is_incomplete` meets its contract, by the contracts of `is_held` and `need`. Assumes nothing.
+use Rattle.state.specs.Slots.{incomplete}
 use Rattle.state.proofs.Slot.is_incomplete.Goals as goal
 
-pub returns-then-self-eq0 : goal.returns-then-self-eq0
-unfolding incomplete held
-returns-then-self-eq0 c = search tests
+pub returns-then-is_held : goal.returns-then-is_held
+unfolding incomplete
+returns-then-is_held c = rw (← c.is_held.ensures, c.if-is_held.true, ← c.need.ensures)
 
-pub returns : goal.returns
-unfolding incomplete held
-returns c = rw (ne_eqb _ _ c.if-self-eq0.false, ← c.need.ensures)
+pub returns-else-is_held : goal.returns-else-is_held
+unfolding incomplete
+returns-else-is_held c = rw (← c.is_held.ensures, c.if-is_held.false)

@@ -23,22 +23,22 @@ returns-in_default c =
     rw (
       eq-eqb _ _ c.if-q-ne17.false,
       ← last-over q some c.if-q-gt3.false
-          (rw c.u16_at.ensures at (sym c.checked-checked_last.ensures ∙ c.in_default.is)),
+          (rw c.u16_at.ensures at (sym c.checked.ensures ∙ c.in_default.is)),
     )
     c.refusal-in_default.ensures
 
-pub returns-in_default-checked_count : goal.returns-in_default-checked_count
-returns-in_default-checked_count c =
+pub returns-in_default-checked : goal.returns-in_default-checked
+returns-in_default-checked c =
     let q =
     c.args.q.now in
     let some : 0 < length q = omega arith in
     rw (
       eq-eqb _ _ c.if-q-ne17.false,
       ← count-over q some c.if-q-gt3.false
-          (rw c.u16_at.ensures at (sym c.checked-checked_last.ensures ∙ c.in-Good.is))
-          (rw c.u16_at-2.ensures at (sym c.checked-checked_count.ensures ∙ c.in_default-checked_count.is)),
+          (rw c.u16_at.ensures at (sym c.checked.ensures ∙ c.in-Some.is))
+          (rw c.u16_at-2.ensures at (sym c.checked-2.ensures ∙ c.in_default-checked.is)),
     )
-    c.refusal-in_default-checked_count.ensures
+    c.refusal-in_default-checked.ensures
 
 pub returns : goal.returns
 returns c =
@@ -48,7 +48,7 @@ returns c =
     rw (
       eq-eqb _ _ c.if-q-ne17.false,
       ← in-range q some c.if-q-gt3.false
-          (rw c.u16_at.ensures at (sym c.checked-checked_last.ensures ∙ c.in-Good.is))
-          (rw c.u16_at-2.ensures at (sym c.checked-checked_count.ensures ∙ c.in-Good-checked_count.is)),
+          (rw c.u16_at.ensures at (sym c.checked.ensures ∙ c.in-Some.is))
+          (rw c.u16_at-2.ensures at (sym c.checked-2.ensures ∙ c.in-Some-checked.is)),
     )
     c.fit_answer.ensures

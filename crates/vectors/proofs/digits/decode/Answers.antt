@@ -12,14 +12,14 @@ returns-then-digits-ne0 c = record {
 }
 
 pub loop-i-init : goal.loop-i-init
-loop-i-init c = (omega arith, refl, begin _ _)
+loop-i-init c = (refl, begin _ _)
 
 pub returns-then-high-gt15 : goal.returns-then-high-gt15
 returns-then-high-gt15 c =
     let inv = c.loop-i.invariant in
     record {
       result_bound = omega arith;
-      asked_after = high-none inv.2 (omega arith) (omega arith);
+      asked_after = high-none inv.1 (omega arith) (omega arith);
     }
 
 pub returns-then-low-gt15 : goal.returns-then-low-gt15
@@ -27,18 +27,18 @@ returns-then-low-gt15 c =
     let inv = c.loop-i.invariant in
     record {
       result_bound = omega arith;
-      asked_after = low-none inv.2 (omega arith) (omega arith) (omega arith);
+      asked_after = low-none inv.1 (omega arith) (omega arith) (omega arith);
     }
 
 pub loop-i-preserved : goal.loop-i-preserved
 loop-i-preserved c =
     let inv = c.loop-i.invariant in
-    (omega arith, simp length-set inv.1, more inv.2 (omega arith) _ (omega arith) (omega arith) (omega arith) (omega arith))
+    (simp length-set inv.0, more inv.1 (omega arith) _ (omega arith) (omega arith) (omega arith) (omega arith))
 
 pub returns : goal.returns
 returns c =
     let inv = c.loop-i.invariant in
     record {
       result_bound = omega arith;
-      asked_after = end inv.2 (omega arith);
+      asked_after = end inv.1 _ (omega arith) (omega arith);
     }

@@ -1,0 +1,2 @@
+-- The modules of specs/. Assumes nothing.
+pub mod Refusals

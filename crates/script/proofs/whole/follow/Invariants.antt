@@ -1,0 +1,14 @@
+-- `script::whole::follow` meets its contract. Assumes nothing.
+use mathlib.Core.Path.{◌≡◌}
+use Prim.Native.Nat.{◌-◌}
+use lib.ListN.{length}
+use Rattle.script.proofs.Following.{Following}
+use Rattle.script.proofs.whole.follow.Given as goal
+
+abbrev pub invariant-loop-at : goal.invariant-loop-at
+invariant-loop-at g l =
+    let p = g.P.Obeys in
+    Following p.payload_of p.carried_out l.initial.owned l.script l.owned l.n l.at × p.Fits l.owned × (length l.out ≡ p.room)
+
+abbrev pub decreases-loop-at : goal.decreases-loop-at
+decreases-loop-at g l = length l.script - l.at
