@@ -1,5 +1,4 @@
 -- What a question is answered: one law for each outcome, and where an entry of each section stands. Assumes nothing.
-use Rattle.refusals.specs.Refusals.{refuse}
 use Rattle.std.specs.Prelude.{Option, Some, None, Ok}
 use mathlib.Core.Path.{◌≡◌, refl, sym, ap, ap₂, ◌∙◌}
 use mathlib.Core.List.{List, [], ◌∷◌}
@@ -10,6 +9,7 @@ use borrow.Author.Tests.{lt-ltb, le-ltb}
 use lib.ListN.{length, drop, get_or}
 use Rattle.octets.specs.Number.{number_at}
 use Rattle.octets.proofs.Numbers.{number_at-one, number_at-drop}
+use Rattle.refusals.specs.Refusals.{refuse}
 use Rattle.sections.specs.Sections.{Row, size, values, entries}
 use Rattle.sections.proofs.Parts.{length-entries}
 use Rattle.sections.proofs.Walks.{entry_at}

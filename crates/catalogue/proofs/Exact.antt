@@ -1,5 +1,4 @@
 -- "Accepted exactly if it is what the writer writes for some list", and the same octets stand for the same list. Assumes nothing.
-use Rattle.catalogue.specs.declared.Picture.{Picture}
 use Rattle.std.specs.Prelude.{Option, Some, None}
 use mathlib.Core.Path.{◌≡◌, refl, sym, ap, ap₂, ◌∙◌}
 use mathlib.Core.Bool.{true, ◌&&◌, false≢true}
@@ -23,6 +22,7 @@ use Rattle.sections.specs.Sections.AllFit.{no-entry, entry}
 use Rattle.sections.specs.Sections.Sections.{no-section, another}
 use Rattle.catalogue.specs.Catalogue.{file_widths, file_row, image_widths, image_row, image_rows, channel_widths, how_many, channel_rows, channel_of, counted_channels, widths, tables, written, GoodImage, AllGood, Good, Catalogue, good_file, rising, same_row, same_rows, files_of, images_of, channels_of, good_tables, accepts, list_of}
 use Rattle.sections.proofs.Parts.{sections-read, sections-whole, sections-written, sections-fit}
+use Rattle.catalogue.specs.declared.Picture.{Picture}
 use Rattle.catalogue.proofs.Lists.{rising-rows, list-rows, reads, Reads}
 
 -- the comparison of rows

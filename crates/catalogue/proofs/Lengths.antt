@@ -1,5 +1,4 @@
 -- How many octets entries and catalogues have. Assumes nothing.
-use Rattle.catalogue.specs.declared.Picture.{Picture}
 use Rattle.std.specs.Prelude.{Option, Some, None}
 use mathlib.Core.Path.{◌≡◌, refl, ap, ◌∙◌}
 use mathlib.Core.List.{List, [], ◌∷◌, ◌++◌, map}
@@ -12,6 +11,7 @@ use Rattle.octets.proofs.Storing.{length-in_octets}
 use Rattle.sections.specs.Sections.{Row, row, rows, section, sections}
 use Rattle.sections.proofs.Growing.{rows_append, section-length}
 use Rattle.catalogue.specs.declared.Entry.{Entry}
+use Rattle.catalogue.specs.declared.Picture.{Picture}
 use Rattle.catalogue.specs.Catalogue.{file_widths, file_row, image_widths, image_row, image_rows, channel_widths, channel_rows, how_many, channel_of, counted_channels, written, image_of, entry_of, list_of}
 use Rattle.catalogue.proofs.Exact.{few-images, few-channels}
 

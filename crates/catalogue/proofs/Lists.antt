@@ -1,5 +1,4 @@
 -- The list that a file section and an image section stand for, and the sections of a list. Assumes nothing.
-use Rattle.catalogue.specs.declared.Picture.{Picture}
 use Rattle.std.specs.Prelude.{Option, Some, None}
 use mathlib.Core.Path.{◌≡◌, refl, sym, ap, ap₂, ◌∙◌}
 use mathlib.Core.Bool.{true, ◌&&◌}
@@ -16,6 +15,7 @@ use Rattle.catalogue.specs.declared.Entry.{Entry}
 use Rattle.sections.specs.Sections.{Row, Fits, AllFit}
 use Rattle.sections.specs.Sections.Fits.{no_field, field}
 use Rattle.sections.specs.Sections.AllFit.{entry}
+use Rattle.catalogue.specs.declared.Picture.{Picture}
 use Rattle.catalogue.specs.Catalogue.{file_widths, file_row, image_widths, image_row, image_rows, GoodImage, GoodEntry, AllGood, good_file, rising, image_of, entry_of, list_of}
 
 -- the indexes of a list's images rise

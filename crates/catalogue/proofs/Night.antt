@@ -1,6 +1,4 @@
 -- What entering does to the catalogue of a list, and a whole night. Assumes nothing.
-use Rattle.refusals.specs.declared.Refusal.{Refusal}
-use Rattle.refusals.specs.Refusals.{refuse}
 use Rattle.std.specs.Prelude.{Option, Some, None, Result, Ok, Err}
 use mathlib.Core.Path.{◌≡◌, refl, sym, ap, ap₂, ◌∙◌, subst}
 use mathlib.Core.Bool.{Bool, true, false, not, ◌&&◌, and-false, false≢true}
@@ -19,6 +17,8 @@ use Rattle.octets.proofs.Put.{put-parts, length-put}
 use Rattle.octets.proofs.Reasons.{First, NoneApplies, decided-cases, first-decided, none-decided, decided-append, none-append}
 use Rattle.octets.proofs.Reasons.First.{here, later}
 use Rattle.octets.proofs.Tests.{and_left, and_right, and_both}
+use Rattle.refusals.specs.declared.Refusal.{Refusal}
+use Rattle.refusals.specs.Refusals.{refuse}
 use Rattle.records.specs.Table.{fixed_types, header_length}
 use Rattle.records.specs.Records.{field_of, header_of, header_says, records, place_of}
 use Rattle.records.specs.Reader.{read_header, fields_of, primary_of, image_at, image_of, segment_at, segment_of, if_there}

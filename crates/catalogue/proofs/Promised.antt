@@ -1,7 +1,4 @@
 -- All that is promised of catalogues. Assumes nothing.
-use Rattle.records.specs.declared.Header.{Header}
-use Rattle.refusals.specs.declared.Refusal.{Refusal}
-use Rattle.refusals.specs.Refusals.{refuse}
 use Rattle.std.specs.Prelude.{Result, Ok, Err}
 use mathlib.Core.Path.{◌≡◌, refl, sym, ap, ◌∙◌, subst}
 use mathlib.Core.Bool.{Bool, true, false, ◌&&◌, false≢true}
@@ -21,6 +18,8 @@ use Rattle.octets.proofs.Put.{length-put, drop-put-after}
 use Rattle.octets.proofs.Reasons.{First, decided-cases, decided-map}
 use Rattle.octets.proofs.Reasons.First.{here, later}
 use Rattle.octets.proofs.Tests.{and_left, and_right}
+use Rattle.refusals.specs.declared.Refusal.{Refusal}
+use Rattle.refusals.specs.Refusals.{refuse}
 use Rattle.records.specs.Table.{fixed_types}
 use Rattle.records.specs.Records.{header_says}
 use Rattle.records.specs.Reader.{read_header, header_number}
@@ -28,6 +27,7 @@ use Rattle.records.specs.Together.{ZeroOr}
 use Rattle.records.proofs.Together.{header-answers}
 use Rattle.facts.specs.declared.Facts.{Facts}
 use Rattle.sections.specs.Sections.{rows, section, sections}
+use Rattle.records.specs.declared.Header.{Header}
 use Rattle.catalogue.specs.declared.Entry.{Entry}
 use Rattle.catalogue.specs.Catalogue.{file_row, image_rows, how_many, channel_rows, counted_channels, written, Good, AllGood, Catalogue, good_file, accepts, files_of, images_of, channels_of, listed}
 use Rattle.catalogue.specs.Asking.{catalogue_read, file_asked, image_asked, channel_asked}

@@ -1,11 +1,11 @@
 -- The answers in the paper's terms: its number, 0 if there is nothing to refuse, and the values that go with it, in the order of the stored form. No
 -- entry has none. Assumes nothing.
-use Rattle.catalogue.specs.declared.Sizes.{Sizes}
-use Rattle.catalogue.specs.declared.ImageEntry.{ImageEntry}
-use Rattle.catalogue.specs.declared.FileEntry.{FileEntry}
-use Rattle.catalogue.specs.declared.ChannelEntry.{ChannelEntry}
-use Rattle.refusals.specs.declared.Refusal.{Refusal}
 use Rattle.std.specs.Prelude.{List, [], ◌∷◌, ℕ, Option, Some, None, Result, Ok, Err}
+use Rattle.refusals.specs.declared.Refusal.{Refusal}
+use Rattle.catalogue.specs.declared.ChannelEntry.{ChannelEntry}
+use Rattle.catalogue.specs.declared.FileEntry.{FileEntry}
+use Rattle.catalogue.specs.declared.ImageEntry.{ImageEntry}
+use Rattle.catalogue.specs.declared.Sizes.{Sizes}
 
 abbrev pub entered_said : Result ℕ Refusal → List ℕ
 entered_said (Err n) = n.0 ∷ []

@@ -1,12 +1,12 @@
 -- Questions to a catalogue: how many entries each section has, and an entry by its number, from 0. Assumes nothing.
-use Rattle.catalogue.specs.declared.Sizes.{Sizes}
+use Rattle.std.specs.Prelude.{List, [], ℕ, ltb, length, get_or, if◌then◌else◌, Option, Some, None, Result, Ok}
 use Rattle.refusals.specs.declared.Refusal.{Refusal}
 use Rattle.refusals.specs.Refusals.{refuse}
-use Rattle.std.specs.Prelude.{List, [], ℕ, ltb, length, get_or, if◌then◌else◌, Option, Some, None, Result, Ok}
 use Rattle.sections.specs.Sections.{Row}
 use Rattle.catalogue.specs.declared.FileEntry.{FileEntry}
 use Rattle.catalogue.specs.declared.ImageEntry.{ImageEntry}
 use Rattle.catalogue.specs.declared.ChannelEntry.{ChannelEntry}
+use Rattle.catalogue.specs.declared.Sizes.{Sizes}
 use Rattle.catalogue.specs.Catalogue.{accepts, files_of, images_of, channels_of, facts_of, picture_of}
 
 -- "otherwise refusal 31"

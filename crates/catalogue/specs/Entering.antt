@@ -1,18 +1,18 @@
 -- One file more. Assumes nothing.
-use Rattle.records.specs.declared.Segment.{Segment}
-use Rattle.catalogue.specs.declared.Picture.{Picture}
-use Rattle.records.specs.declared.Image.{Image}
-use Rattle.refusals.specs.declared.Refusal.{Refusal}
-use Rattle.refusals.specs.Refusals.{refuse}
 use Rattle.std.specs.Prelude.{Bool, not, ◌&&◌, List, [], ◌∷◌, ◌++◌, ℕ, leb, ltb, eqb, length, take, Option, Some, None, Result, Ok}
 use Rattle.octets.specs.Buffer.{put}
 use Rattle.octets.specs.Reasons.{Reason, decided}
 use Rattle.octets.specs.Reasons.Reason.{◌when◌}
+use Rattle.refusals.specs.declared.Refusal.{Refusal}
+use Rattle.refusals.specs.Refusals.{refuse}
+use Rattle.records.specs.declared.Image.{Image}
+use Rattle.records.specs.declared.Segment.{Segment}
 use Rattle.records.specs.Table.{fixed_types}
 use Rattle.records.specs.Records.{header_of, header_says}
 use Rattle.records.specs.Reader.{primary_of, image_of, segment_of}
 use Rattle.facts.specs.declared.Facts.{Facts}
 use Rattle.catalogue.specs.declared.Entry.{Entry}
+use Rattle.catalogue.specs.declared.Picture.{Picture}
 use Rattle.catalogue.specs.Catalogue.{file_row, good_file, accepts, files_of, listed, written}
 
 -- "one for each file with an image structure record"; "segment number 1, total 1 (zeros without a segment record)"

@@ -1,7 +1,7 @@
 -- A night: files entered one after the other, refused ones among them. Assumes nothing.
-use Rattle.refusals.specs.declared.Refusal.{Refusal}
 use Rattle.std.specs.Prelude.{List, [], ◌∷◌, ◌++◌, ℕ, ◌^◌, ◌<◌, Result, Ok, Err}
 use Rattle.octets.specs.Number.{Octets}
+use Rattle.refusals.specs.declared.Refusal.{Refusal}
 use Rattle.facts.specs.declared.Facts.{Facts}
 use Rattle.catalogue.specs.declared.Entry.{Entry}
 use Rattle.catalogue.specs.Entering.{Outcome, entry_for, file_entered, begun}

@@ -1,11 +1,11 @@
 -- What is promised of catalogues, one sentence after the other, as one statement. That it holds is proved (proofs/Promised.antt). The calls are the
 -- definitions that their contracts cite (Asking.antt, Entering.antt). Assumes nothing.
-use Rattle.refusals.specs.Refusals.{refuse}
 use Rattle.std.specs.Prelude.{◌≡◌, true, ◌↔◌, ℕ, ◌≤◌, ◌<◌, length, get_or, take, drop, replicate, Some, None, Ok}
 use mathlib.Core.List.{List, [], ◌∷◌, ◌++◌, map, Memᴰ}
 use Rattle.octets.specs.Number.{Octets}
 use Rattle.octets.specs.Buffer.{put}
 use Rattle.octets.specs.Reasons.{decided}
+use Rattle.refusals.specs.Refusals.{refuse}
 use Rattle.records.specs.Reader.{read_header}
 use Rattle.records.specs.declared.Header.{Header}
 use Rattle.facts.specs.declared.Facts.{Facts}

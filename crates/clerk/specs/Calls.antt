@@ -1,7 +1,7 @@
 -- What `clerk` owns, and what a command does to it, by its letter. Assumes nothing.
-use Rattle.refusals.specs.declared.Refusal.{Refusal}
 use Rattle.std.specs.Prelude.{List, ◌++◌, ℕ, ◌/◌, ◌%◌, ◌^◌, min, eqb, take, drop, set, if◌then◌else◌, Result, Ok, Err}
 use Rattle.octets.specs.Buffer.{put}
+use Rattle.refusals.specs.declared.Refusal.{Refusal}
 use Rattle.script.specs.declared.Command.{Command}
 use Rattle.facts.specs.declared.Facts.{Facts}
 use Rattle.catalogue.specs.Entering.{Outcome, begun, file_entered}

@@ -53,16 +53,12 @@ fn table(zeros: usize) -> [u16; 256]
     requires { zeros < 4 }
     ensures { result ≡ table_of 256 (λ (x : ℕ). crc_from 0 (x ∷ replicate zeros 0)) }
 {
-    if zeros == 0 {
-        return tables::ZEROS_0;
+    match zeros {
+        0 => tables::ZEROS_0,
+        1 => tables::ZEROS_1,
+        2 => tables::ZEROS_2,
+        _ => tables::ZEROS_3,
     }
-    if zeros == 1 {
-        return tables::ZEROS_1;
-    }
-    if zeros == 2 {
-        return tables::ZEROS_2;
-    }
-    tables::ZEROS_3
 }
 
 // The register after octets in fours. Each octet's part in it stands in the table with as many zeros as octets follow, and the register's own two

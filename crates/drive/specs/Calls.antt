@@ -1,7 +1,7 @@
 -- What S, F, R, L and I do, on the octets lent, and what a command does by its letter. Assumes nothing.
-use Rattle.facts.specs.declared.Facts.{Facts}
-use Rattle.refusals.specs.declared.Refusal.{Refusal}
 use Rattle.std.specs.Prelude.{List, ◌++◌, ℕ, eqb, drop, replicate, if◌then◌else◌, Result}
+use Rattle.refusals.specs.declared.Refusal.{Refusal}
+use Rattle.facts.specs.declared.Facts.{Facts}
 use Rattle.state.specs.declared.Station.{Station}
 use Rattle.station.specs.SetUp.{SetUpOutcome, set_up}
 use Rattle.station.specs.Frame.{FrameOutcome, framed}

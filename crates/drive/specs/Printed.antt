@@ -1,7 +1,7 @@
 -- What each command prints. Assumes nothing.
-use Rattle.facts.specs.declared.Facts.{Facts}
-use Rattle.refusals.specs.declared.Refusal.{Refusal}
 use Rattle.std.specs.Prelude.{List, [], ℕ, eqb, if◌then◌else◌, Result}
+use Rattle.refusals.specs.declared.Refusal.{Refusal}
+use Rattle.facts.specs.declared.Facts.{Facts}
 use Rattle.lines.specs.Lines.{answer_line, frame_lines, read_line, let_go_line, told_line}
 use Rattle.show.specs.Shown.{shown}
 use Rattle.station.specs.Frame.{FrameOutcome}

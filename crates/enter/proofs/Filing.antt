@@ -1,6 +1,4 @@
 -- A file entered by its header, and an empty catalogue. Assumes nothing.
-use Rattle.refusals.specs.declared.Refusal.{Refusal}
-use Rattle.refusals.specs.Refusals.{refuse}
 use Rattle.std.specs.Prelude.{Result, Ok, Err}
 use mathlib.Core.Path.{◌≡◌, sym, ap, ◌∙◌}
 use mathlib.Core.List.{List}
@@ -9,6 +7,8 @@ use borrow.Author.Tests.{lt-ltb, le-ltb}
 use lib.ListN.{length, take, replicate}
 use Rattle.octets.specs.Buffer.{put}
 use Rattle.octets.proofs.Reasons.{decided-append, decided-map}
+use Rattle.refusals.specs.declared.Refusal.{Refusal}
+use Rattle.refusals.specs.Refusals.{refuse}
 use Rattle.records.specs.Table.{fixed_types}
 use Rattle.records.specs.Records.{header_says, header_of}
 use Rattle.records.specs.Reader.{fields_of, read_header}

@@ -1,6 +1,4 @@
 -- What entering refuses, and why; and what is known where it goes on. Assumes nothing.
-use Rattle.refusals.specs.declared.Refusal.{Refusal}
-use Rattle.refusals.specs.Refusals.{refuse}
 use Rattle.std.specs.Prelude.{Some, None, Result, Ok}
 use mathlib.Core.Path.{◌≡◌, sym, ap, ap₂, subst, ◌∙◌}
 use mathlib.Core.Bool.{true, false, not, ◌&&◌, and-false}
@@ -16,6 +14,8 @@ use Rattle.octets.specs.Each.{each}
 use Rattle.octets.proofs.Numbers.{octets-take, number_at-below}
 use Rattle.octets.proofs.Reasons.{First, first-decided, none-decided}
 use Rattle.octets.proofs.Reasons.First.{here, later}
+use Rattle.refusals.specs.declared.Refusal.{Refusal}
+use Rattle.refusals.specs.Refusals.{refuse}
 use Rattle.sections.specs.Sections.{Row, entries}
 use Rattle.sections.proofs.Parts.{length-entries}
 use Rattle.catalogue.specs.declared.Places.{Places}

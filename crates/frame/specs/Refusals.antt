@@ -1,12 +1,12 @@
 -- Refusals 3 to 9 of a frame, the lowest number that applies ("What the station says"). Assumes nothing.
-use Rattle.frame.specs.declared.Accepted.{Accepted}
+use Rattle.std.specs.Prelude.{Bool, not, ◌&&◌, List, ℕ, eqb, length, if◌then◌else◌, Option, Some, None, Result, Ok}
 use Rattle.refusals.specs.declared.Refusal.{Refusal}
 use Rattle.refusals.specs.Refusals.{refuse}
-use Rattle.std.specs.Prelude.{Bool, not, ◌&&◌, List, ℕ, eqb, length, if◌then◌else◌, Option, Some, None, Result, Ok}
 use Rattle.frame.specs.declared.Channel.{Channel}
 use Rattle.frame.specs.declared.Frame.{Frame}
 use Rattle.frame.specs.declared.Pointer.{Pointer}
 use Rattle.frame.specs.declared.Pointer.TheVariants as pointer
+use Rattle.frame.specs.declared.Accepted.{Accepted}
 use Rattle.frame.specs.Kinds.{desk_of}
 use Rattle.frame.specs.Header.{marker, starts_with, derandomised, frame_of, pointer_meaning}
 

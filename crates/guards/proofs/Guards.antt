@@ -1,5 +1,4 @@
 -- The runs of specs/Guards.antt give what is said there. Assumes nothing.
-use Rattle.refusals.specs.Refusals.{refuse}
 use Rattle.std.specs.Prelude.{Ok}
 use mathlib.Core.Path.{◌≡◌, refl, sym, ap, ap₂, subst, ◌∙◌}
 use mathlib.Core.Bool.{true}
@@ -22,6 +21,7 @@ use Rattle.state.specs.Decision.{among, distinct_channels, good_channels}
 use Rattle.octets.specs.Each.{each}
 use Rattle.octets.specs.Number.{Octets}
 use Rattle.octets.proofs.Tests.{and_both, and_left, and_right}
+use Rattle.refusals.specs.Refusals.{refuse}
 use Rattle.noise.proofs.Mixing.{octets-mixed}
 use Rattle.room.specs.Find.{free_from, file_from}
 use Rattle.room.specs.Move.{let_go}

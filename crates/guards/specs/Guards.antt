@@ -1,10 +1,10 @@
 -- Runs of real frames that meet the premises of the demands, so that none of these is empty: what each of them gives, to the last event.
 -- Assumes nothing.
-use Rattle.refusals.specs.Refusals.{refuse}
-use Rattle.refusals.specs.declared.Refusal.{Refusal}
-use Rattle.records.specs.declared.Header.{Header}
 use Rattle.std.specs.Prelude.{◌≡◌, true, false, List, [], ◌∷◌, ◌++◌, ℕ, ◌+◌, ◌≤◌, length, None, Ok, Result}
 use Rattle.octets.specs.Number.{Octets}
+use Rattle.refusals.specs.declared.Refusal.{Refusal}
+use Rattle.refusals.specs.Refusals.{refuse}
+use Rattle.records.specs.declared.Header.{Header}
 use Rattle.records.specs.Reader.{read_header}
 use Rattle.state.specs.Slots.{slot_at, complete}
 use Rattle.transport.specs.declared.Transport.{Transport}

@@ -1,6 +1,4 @@
 -- What is told of a complete file is what its first packet says, and of no other file anything is told. Assumes nothing.
-use Rattle.refusals.specs.declared.Refusal.{Refusal}
-use Rattle.refusals.specs.Refusals.{refuse}
 use Rattle.std.specs.Prelude.{Result, Ok, Err}
 use mathlib.Core.Path.{◌≡◌, refl, sym, ap, ◌∙◌}
 use mathlib.Core.Bool.{Bool, true, false, true≢false}
@@ -14,6 +12,8 @@ use lib.ListN.{length, take, get_or, length-take}
 use lib.Seq.{take-append-le}
 use Rattle.octets.proofs.Decide.{told-true}
 use Rattle.octets.proofs.Tests.{and_left, and_right, and_both}
+use Rattle.refusals.specs.declared.Refusal.{Refusal}
+use Rattle.refusals.specs.Refusals.{refuse}
 use Rattle.packet.specs.Header.{packet_of}
 use Rattle.transport.specs.declared.Transport.{Transport}
 use Rattle.facts.specs.declared.Facts.{Facts}

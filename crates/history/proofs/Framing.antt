@@ -1,5 +1,4 @@
 -- What becomes of a frame call: it is refused and nothing changes, or it is taken, and what is known then. Assumes nothing.
-use Rattle.refusals.specs.declared.Refusal.{Refusal}
 use Rattle.std.specs.Prelude.{Result, Ok, Err}
 use mathlib.Core.Path.{◌≡◌, refl}
 use mathlib.Core.Bool.{Bool, true, false, ◌&&◌}
@@ -15,6 +14,7 @@ use Rattle.frame.proofs.Answers.{refusal-number}
 use Rattle.state.specs.declared.Station.{Station}
 use Rattle.state.specs.Decision.{is_sound, are_desks_sound}
 use Rattle.octets.proofs.Tests.{and_right}
+use Rattle.refusals.specs.declared.Refusal.{Refusal}
 use Rattle.zone.specs.Walk.{walked}
 use Rattle.station.specs.SetUp.{desks_fit}
 use Rattle.station.specs.Files.{store_fits}

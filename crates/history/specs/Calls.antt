@@ -1,6 +1,4 @@
 -- Demand 1: what each call answers, of any octets and any state, reached or not; and that a refused call changes nothing. Assumes nothing.
-use Rattle.facts.specs.declared.Facts.{Facts}
-use Rattle.refusals.specs.declared.Refusal.{Refusal}
 use Rattle.std.specs.Prelude.{◌≡◌, Bool, true, false, List, [], ◌∷◌, ℕ, ◌≤◌, length, Result}
 use Rattle.octets.specs.Buffer.{put}
 use Rattle.state.specs.Slots.{all_zero_state}
@@ -11,6 +9,8 @@ use Rattle.events.specs.Event.{flat}
 use Rattle.station.specs.SetUp.{set_up_gives, set_up}
 use Rattle.station.specs.Files.{file_let_go, read_out, told_of, told_number, told_values}
 use Rattle.octets.specs.Reasons.{Reason, numbers, applies}
+use Rattle.refusals.specs.declared.Refusal.{Refusal}
+use Rattle.facts.specs.declared.Facts.{Facts}
 use Rattle.station.specs.Answers.{set_up_says, frame_says, read_says, let_go_says, told_says}
 use Rattle.history.specs.Run.{World, Call, frame_in, answer, after}
 use Rattle.history.specs.Run.Call.{frame, read, let-go}

@@ -1,8 +1,8 @@
 -- Demand 2: when a file is complete, that its octets are those its packets carried, and what is told of it. Assumes nothing.
-use Rattle.refusals.specs.Refusals.{refuse}
 use Rattle.std.specs.Prelude.{◌≡◌, true, false, ◌⊎◌, ◌↔◌, ℕ, ◌+◌, ◌/◌, ◌%◌, ◌≤◌, ◌<◌, eqb, length, get_or, take, drop, if◌then◌else◌, Ok}
 use mathlib.Core.List.{List, [], ◌∷◌, ◌++◌, map, flatten}
 use Rattle.octets.specs.Number.{part}
+use Rattle.refusals.specs.Refusals.{refuse}
 use Rattle.frame.specs.declared.Channel.{Channel}
 use Rattle.packet.specs.Header.{packet_of}
 use Rattle.facts.specs.declared.Facts.{Facts}

@@ -1,9 +1,9 @@
 -- Demand 2, "and its header records are read to their published meaning or refused by number": the octets that a read of a complete file
 -- gives, and what the header reader says of them. Assumes nothing.
-use Rattle.refusals.specs.Refusals.{refuse}
 use Rattle.std.specs.Prelude.{◌≡◌, true, ◌⊎◌, ℕ, ◌≤◌, ◌<◌, replicate, Some, None, Ok}
 use mathlib.Core.List.{List, Memᴰ}
 use Rattle.octets.specs.Reasons.{decided}
+use Rattle.refusals.specs.Refusals.{refuse}
 use Rattle.transport.specs.Length.{octets_of_bits}
 use Rattle.records.specs.declared.Record.{Record}
 use Rattle.records.specs.Table.{fixed_types, length_of}

@@ -1,8 +1,8 @@
 -- What happens to a station, one thing after the other: the packets that a frame brings, the desk that it leaves, and the files that the
 -- user lets go. A run of calls is a list of such things (proofs/Moments.antt), so what holds of each of them holds of every run.
 -- Assumes nothing.
-use Rattle.refusals.specs.declared.Refusal.{Refusal}
 use Rattle.std.specs.Prelude.{List, [], ◌∷◌, ◌++◌, map, ℕ, eqb, length, take, if◌then◌else◌, Result, Ok, Err}
+use Rattle.refusals.specs.declared.Refusal.{Refusal}
 use Rattle.frame.specs.declared.Accepted.{Accepted}
 use Rattle.frame.specs.declared.Channel.{Channel}
 use Rattle.frame.specs.Header.{derandomised, zone_of}

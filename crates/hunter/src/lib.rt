@@ -9,6 +9,7 @@ ghost use Rattle.stream.specs.Hunter.{is_sound, gave_hunt, hunt_of, hunted};
 ghost use Rattle.hunter.specs.Contract.{spread_of, none_found, filled, Settled, Sliding, Ready};
 
 use frame::Frame;
+use refusals::Refusal;
 use stream::{Hunted, Hunter, Sought};
 
 // Whether a hunter can have come from begin and hunt.
@@ -127,7 +128,7 @@ pub fn hunt(h: Hunter, portion: &[u8], buffer: &mut [u8]) -> Hunted
 {
     if buffer.len() != Frame::SIZE {
         return Hunted {
-            answer: 1,
+            answer: Refusal::LENT.0,
             taken: 0,
             found: false,
             hunter: h,
@@ -135,7 +136,7 @@ pub fn hunt(h: Hunter, portion: &[u8], buffer: &mut [u8]) -> Hunted
     }
     if !is_sound(h) {
         return Hunted {
-            answer: 2,
+            answer: Refusal::UNSOUND.0,
             taken: 0,
             found: false,
             hunter: h,

@@ -1,5 +1,4 @@
 -- The list that the sections stand for, taken from them file by file. Assumes nothing.
-use Rattle.catalogue.specs.declared.Picture.{Picture}
 use Rattle.std.specs.Prelude.{if◌then◌else◌, Option, Some, None}
 use mathlib.Core.Path.{◌≡◌, refl, sym, ap, ap₂, ◌∙◌}
 use mathlib.Core.Bool.{Bool, true, false}
@@ -15,6 +14,7 @@ use Rattle.sections.specs.Sections.{Row, values}
 use Rattle.catalogue.specs.declared.FileEntry.{FileEntry}
 use Rattle.catalogue.specs.declared.ImageEntry.{ImageEntry}
 use Rattle.catalogue.specs.declared.Places.{Places}
+use Rattle.catalogue.specs.declared.Picture.{Picture}
 use Rattle.catalogue.specs.Catalogue.{file_widths, image_widths, images_of, image_of, entry_of, list_of}
 use Rattle.catalogue.specs.Reading.{Lies}
 use Rattle.catalogue.specs.Asking.{file_entry, image_entry}

@@ -1,8 +1,8 @@
 -- The list that the sections stand for, taken from them file by file. Means, all of it. Assumes nothing.
-use Rattle.catalogue.specs.declared.Picture.{Picture}
 use Rattle.std.specs.Prelude.{List, [], ◌∷◌, ℕ, eqb, get_or, drop, if◌then◌else◌, Option, Some, None}
 use Rattle.sections.specs.Sections.{Row}
 use Rattle.catalogue.specs.declared.Entry.{Entry}
+use Rattle.catalogue.specs.declared.Picture.{Picture}
 use Rattle.catalogue.specs.Catalogue.{files_of, images_of, image_of, entry_of}
 
 -- the image of file i, of the images that are left

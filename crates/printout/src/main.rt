@@ -13,6 +13,7 @@ ghost use Rattle.printout.specs.Left.{image_for, taken as taken_by, entry_at};
 
 use catalogue::{ChannelEntry, Entry, Picture, Places};
 use facts::Facts;
+use refusals::Refusal;
 use std::io::{Stdin, Stdout};
 
 // The most octets that are read.
@@ -175,7 +176,7 @@ fn refused_line(out: &mut [u8]) -> usize
     requires { 29 ≤ length out.old }
     ensures { (result ≤ 29) × Written out.old 0 refused_line out.new result }
 {
-    let last = text::with_number(b"refused", 31, out, 0);
+    let last = text::with_number(b"refused", Refusal::NO_CATALOGUE.0 as u64, out, 0);
     text::line_end(out, last)
 }
 

@@ -1,16 +1,16 @@
 -- docs/VECTORS.md, the questions `H` and `R`: the text of what the reader of header records answers. Assumes nothing.
-use Rattle.records.specs.declared.Time.{Time}
-use Rattle.records.specs.declared.Segment.{Segment}
-use Rattle.records.specs.declared.Record.{Record}
-use Rattle.records.specs.declared.Navigation.{Navigation}
-use Rattle.records.specs.declared.Image.{Image}
-use Rattle.refusals.specs.declared.Refusal.{Refusal}
 use Rattle.std.specs.Prelude.{List, [], ◌++◌, ℕ, ℤ, pos, nat_abs, Option, Some, None, Result, Ok, Err}
 use Rattle.std.specs.Int.Signed.{lt_z}
+use Rattle.refusals.specs.declared.Refusal.{Refusal}
 use Rattle.text.specs.Pieces.{ascii, spaced, spaced_signed, in_hex}
 use Rattle.text.specs.Lines.{spaced_three}
 use Rattle.records.specs.declared.Primary.{Primary}
 use Rattle.records.specs.declared.Header.{Header}
+use Rattle.records.specs.declared.Image.{Image}
+use Rattle.records.specs.declared.Navigation.{Navigation}
+use Rattle.records.specs.declared.Record.{Record}
+use Rattle.records.specs.declared.Segment.{Segment}
+use Rattle.records.specs.declared.Time.{Time}
 
 -- "the four numbers behind it are signed, a minus in front of a negative one"
 unfoldable pub signed_text : ℤ → List ℕ

@@ -1,6 +1,4 @@
 -- What is decided of a file's header, refusal by refusal, and how every answer follows from it. Assumes nothing.
-use Rattle.refusals.specs.declared.Refusal.{Refusal}
-use Rattle.refusals.specs.Refusals.{refuse, verdict}
 use Rattle.std.specs.Prelude.{Result, Ok, Err, ⊤}
 use mathlib.Core.Path.{◌≡◌, sym, ap, ◌∙◌}
 use mathlib.Core.Bool.{true, false, and-false, or-true}
@@ -14,6 +12,8 @@ use Rattle.octets.specs.Number.{number_at}
 use Rattle.octets.specs.Reasons.{Reason, decided}
 use Rattle.octets.proofs.Numbers.{number_at-one}
 use Rattle.octets.proofs.Reasons.{none-decided, decided-none, decided-kept, decided-append, decided-map}
+use Rattle.refusals.specs.declared.Refusal.{Refusal}
+use Rattle.refusals.specs.Refusals.{refuse, verdict}
 use Rattle.records.specs.Table.{FixedType, header_length, data_bits}
 use Rattle.records.specs.Records.{field_of, header_of, record_by_record, size_says, starts_primary, header_says}
 use Rattle.records.specs.Reader.{Fine}

@@ -1,5 +1,4 @@
 -- Headers that are accepted, so that no theorem about accepted ones is empty, and headers on both sides of each refusal. Assumes nothing.
-use Rattle.refusals.specs.Refusals.{refuse}
 use Rattle.std.specs.Prelude.{Result, Some, None, Ok}
 use mathlib.Core.Path.{◌≡◌, refl}
 use mathlib.Core.Bool.{true}
@@ -15,6 +14,7 @@ use Rattle.records.specs.Reader.{primary_of, image_at, segment_at, image_of, nav
 use Rattle.records.specs.Together.{Accepted}
 use Rattle.records.specs.declared.Header.{Header}
 use Rattle.refusals.specs.declared.Refusal.{Refusal}
+use Rattle.refusals.specs.Refusals.{refuse}
 
 -- sixteen octets: a type and a length, and a header length and data field bits that each fill one octet
 abbrev opening : ℕ → ℕ → ℕ → ℕ → List ℕ

@@ -1,6 +1,4 @@
 -- "23, 24, 25 are tried record by record": the walk that judges, with a mark for each type seen. Assumes nothing.
-use Rattle.refusals.specs.declared.Refusal.{Refusal}
-use Rattle.refusals.specs.Refusals.{refuse, verdict}
 use Rattle.std.specs.Prelude.{Result, Ok, ⊤}
 use mathlib.Core.Path.{◌≡◌, refl, sym, ◌∙◌}
 use mathlib.Core.Bool.{Bool, true, false, ◌||◌}
@@ -13,6 +11,8 @@ use lib.ListN.{length, get_or, set, replicate, length-set, length-replicate, get
 use lib.Seq.{get_or-set_same, get_or-set_other}
 use Rattle.octets.specs.Reasons.{Reason, decided}
 use Rattle.octets.proofs.Reasons.{none-decided, decided-none, decided-append, decided-kept}
+use Rattle.refusals.specs.declared.Refusal.{Refusal}
+use Rattle.refusals.specs.Refusals.{refuse, verdict}
 use Rattle.records.specs.Table.{FixedType}
 use Rattle.records.specs.Records.{record_at, after, records, record_says, seen_in, records_say}
 use Rattle.records.specs.declared.Record.{Record}

@@ -1,6 +1,4 @@
 -- What is known of a header of which nothing is refused: each record is whole, of the right length and new, and the file is filled. Assumes nothing.
-use Rattle.refusals.specs.declared.Refusal.{Refusal}
-use Rattle.refusals.specs.Refusals.{refuse}
 use Rattle.std.specs.Prelude.{Option, Some, Ok, Result, ⊤}
 use mathlib.Core.Path.{◌≡◌, sym, ap, ◌∙◌}
 use mathlib.Core.Bool.{true, false, ◌&&◌}
@@ -12,6 +10,8 @@ use lib.Dec.{ltb, eqb}
 use lib.ListN.{length}
 use Rattle.octets.proofs.Lists.{if-cases}
 use Rattle.octets.proofs.Reasons.{NoneApplies, none-append, decided-none}
+use Rattle.refusals.specs.declared.Refusal.{Refusal}
+use Rattle.refusals.specs.Refusals.{refuse}
 use Rattle.records.specs.Table.{FixedType, header_length, data_bits, length_of}
 use Rattle.records.specs.Records.{field_of, header_of, records, is_cut, wrong_length, is_fixed, record_says, seen_in, records_say, record_by_record, octets_for, size_says, starts_primary, header_says, place_of}
 use Rattle.records.specs.Reader.{Fine, StandsWhole}

@@ -1,6 +1,4 @@
 -- What the reader answers says what the paper gives: the same number, and the same values. Assumes nothing.
-use Rattle.refusals.specs.declared.Refusal.{Refusal}
-use Rattle.refusals.specs.Refusals.{refuse}
 use Rattle.std.specs.Prelude.{option_map, Option, Some, None, Result, Ok}
 use mathlib.Core.Path.{◌≡◌, refl, sym, ap, ◌∙◌}
 use mathlib.Core.List.{List, [], ◌∷◌, map}
@@ -18,6 +16,8 @@ use Rattle.octets.proofs.Lists.{if-cases}
 use Rattle.octets.proofs.Numbers.{number_at-part}
 use Rattle.octets.proofs.Tests.{and_left}
 use Rattle.octets.proofs.Reasons.{decided-cases, none-decided, first-decided, decided-append, decided-map}
+use Rattle.refusals.specs.declared.Refusal.{Refusal}
+use Rattle.refusals.specs.Refusals.{refuse}
 use Rattle.records.specs.Table as table
 use Rattle.records.specs.Table.{header_length, primary, image_structure, time_stamp, segment, fixed_types}
 use Rattle.records.specs.Records.{field_of, header_of, record_at, records, header_says, nth, place_of}

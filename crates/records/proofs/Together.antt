@@ -1,7 +1,5 @@
 -- Theorems about whole headers: what the records of an accepted one have together, that nothing of the data field enters, which numbers are
 -- given, and that there are headers that are accepted. Assumes nothing.
-use Rattle.refusals.specs.declared.Refusal.{Refusal}
-use Rattle.refusals.specs.Refusals.{refuse}
 use Rattle.std.specs.Prelude.{if◌then◌else◌, Some, Result, Ok}
 use mathlib.Core.Path.{◌≡◌, refl, sym, ap, ap₂, subst, ◌∙◌}
 use mathlib.Core.Bool.{Bool, true, false, ◌&&◌, or-true, true≢false, false≢true}
@@ -18,6 +16,8 @@ use Rattle.octets.proofs.Lists.{if-cases}
 use Rattle.octets.proofs.Numbers.{number_at-part}
 use Rattle.octets.proofs.Tests.{and_right}
 use Rattle.octets.proofs.Reasons.{NoneApplies, decided-cases, decided-none, none-decided, first-decided, between-append, first-between, Between}
+use Rattle.refusals.specs.declared.Refusal.{Refusal}
+use Rattle.refusals.specs.Refusals.{refuse}
 use Rattle.records.specs.Table.{FixedType, header_length, data_bits, fixed_types, length_of}
 use Rattle.records.specs.Records.{field_of, header_of, record_at, after, records_from, records, record_says, seen_in, records_say, record_by_record, size_says, header_says, nth}
 use Rattle.records.specs.Reader.{fields_of, read_header, read_record, header_number, record_number}

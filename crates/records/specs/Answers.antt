@@ -1,21 +1,21 @@
 -- The two answers in the paper's terms: its number and the values that go with it, for each case of each enum; and what the paper gives for a
 -- file, from the table of fixed types and the list of the header's records alone. Assumes nothing.
-use Rattle.records.specs.declared.Time.{Time}
-use Rattle.records.specs.declared.Segment.{Segment}
-use Rattle.records.specs.declared.Navigation.{Navigation}
-use Rattle.records.specs.declared.Image.{Image}
-use Rattle.records.specs.declared.Header.{Header}
-use Rattle.refusals.specs.declared.Refusal.{Refusal}
 use Rattle.std.specs.Prelude.{List, [], ◌∷◌, ◌++◌, map, ℕ, ◌+◌, leb, ℤ, length, get_or, Option, Some, None, Result, Ok, Err}
 use Rattle.octets.specs.Number.{part, signed as signed_of, number_at}
 use Rattle.octets.specs.Reasons.{decided}
 use Rattle.octets.specs.Reasons.Reason.{◌when◌}
+use Rattle.refusals.specs.declared.Refusal.{Refusal}
 use Rattle.records.specs.Table.{Form, Field, FixedType, fixed_types}
 use Rattle.records.specs.Table.Form.{as_number, as_signed, as_octets}
 use Rattle.records.specs.Records.{header_of, record_at, records, header_says, place_of}
 use Rattle.records.specs.Reader.{if_there, header_number, record_number}
 use Rattle.records.specs.declared.Record.{Record}
 use Rattle.records.specs.declared.Primary.{Primary}
+use Rattle.records.specs.declared.Header.{Header}
+use Rattle.records.specs.declared.Image.{Image}
+use Rattle.records.specs.declared.Navigation.{Navigation}
+use Rattle.records.specs.declared.Segment.{Segment}
+use Rattle.records.specs.declared.Time.{Time}
 
 pub data Value : Type 0 where
   number : ℕ → Value

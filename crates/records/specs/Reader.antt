@@ -1,11 +1,9 @@
 -- What the reader answers: "the fixed fields or their absence", and one record by its number. Assumes nothing.
-use Rattle.records.specs.declared.Record.{Record}
-use Rattle.records.specs.declared.Header.{Header}
-use Rattle.refusals.specs.declared.Refusal.{Refusal}
-use Rattle.refusals.specs.Refusals.{refuse, answer_of, verdict}
 use Rattle.std.specs.Prelude.{◌≡◌, List, ℕ, ◌+◌, ◌≤◌, ℤ, length, option_map, Option, Some, None, Result, Ok}
 use Rattle.octets.specs.Number.{part, signed}
 use Rattle.octets.specs.Reasons.{decided}
+use Rattle.refusals.specs.declared.Refusal.{Refusal}
+use Rattle.refusals.specs.Refusals.{refuse, answer_of, verdict}
 use Rattle.records.specs.Table as table
 use Rattle.records.specs.Table.{Field, FixedType, fixed_types}
 use Rattle.records.specs.Records.{field_of, header_of, records, record_by_record, header_says, nth, place_of}
@@ -14,6 +12,8 @@ use Rattle.records.specs.declared.Image.{Image}
 use Rattle.records.specs.declared.Navigation.{Navigation}
 use Rattle.records.specs.declared.Time.{Time}
 use Rattle.records.specs.declared.Segment.{Segment}
+use Rattle.records.specs.declared.Header.{Header}
+use Rattle.records.specs.declared.Record.{Record}
 
 -- a header that has its primary record whole, and of whose records none is refused by a table of fixed types
 pub record Fine (types : List FixedType) (header : List ℕ) : Type 0 where

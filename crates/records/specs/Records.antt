@@ -1,10 +1,10 @@
 -- The records of a header, in order, and what is refused of them ("Header records", refusals 20 to 26). Assumes nothing.
-use Rattle.refusals.specs.declared.Refusal.{Refusal}
-use Rattle.refusals.specs.Refusals.{refuse}
 use Rattle.std.specs.Prelude.{Bool, true, false, not, ◌&&◌, ◌||◌, List, [], ◌∷◌, ◌++◌, ℕ, zero, suc, ◌+◌, ltb, eqb, length, take, if◌then◌else◌, Option, Some, None, Result, Ok}
 use Rattle.octets.specs.Number.{number_at, rounded_up}
 use Rattle.octets.specs.Reasons.{Reason}
 use Rattle.octets.specs.Reasons.Reason.{◌when◌}
+use Rattle.refusals.specs.declared.Refusal.{Refusal}
+use Rattle.refusals.specs.Refusals.{refuse}
 use Rattle.records.specs.Table.{Field, FixedType, header_length, data_bits, length_of}
 use Rattle.records.specs.declared.Record.{Record}
 

@@ -26,12 +26,16 @@ impl Refusal {
     pub const NOT_WATCHED: Refusal = Refusal(8);
 
     pub const POINTER: Refusal = Refusal(9);
+    // The channels that a set-up names.
+    pub const CHANNELS: Refusal = Refusal(10);
     // A slot that is named, and a read of its file.
     pub const NO_FILE: Refusal = Refusal(11);
 
     pub const INCOMPLETE: Refusal = Refusal(12);
 
     pub const PAST_END: Refusal = Refusal(14);
+    // The wrong bits that a hunter's marker may have.
+    pub const WRONG_BITS: Refusal = Refusal(15);
     // A file's header.
     pub const SHORT: Refusal = Refusal(20);
 

@@ -1,7 +1,7 @@
 -- "Both sides of the line": the cases marked *, in the order of the paper, and what each of them says. Octets are joined by ∷ and end in [];
 -- 0x begins a number in hexadecimal. Assumes nothing.
-use Rattle.refusals.specs.Refusals.{refuse}
 use Rattle.std.specs.Prelude.{◌≡◌, true, List, [], ◌∷◌, ◌++◌, ℕ, ◌/◌, ◌%◌, replicate}
+use Rattle.refusals.specs.Refusals.{refuse}
 use Rattle.crc.specs.Crc.{crc_of}
 use Rattle.frame.specs.declared.Frame.{Frame}
 use Rattle.frame.specs.declared.Pointer.TheVariants.{Offset, NoStart}

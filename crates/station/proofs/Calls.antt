@@ -1,8 +1,5 @@
 -- What each call gives back, read off the definitions once: the first number of its list that applies, and then nothing changes; or 0, and
 -- then what was to be done is done. Assumes nothing.
-use Rattle.frame.specs.declared.Accepted.{Accepted}
-use Rattle.refusals.specs.declared.Refusal.{Refusal}
-use Rattle.refusals.specs.Refusals.{refuse}
 use Rattle.std.specs.Prelude.{if◌then◌else◌, Option, Some, None, Result, Ok}
 use mathlib.Core.Path.{◌≡◌, refl, ◌∙◌}
 use mathlib.Core.Bool.{Bool, true, false, not, ◌&&◌, ◌||◌, and-false}
@@ -45,6 +42,9 @@ use Rattle.station.specs.Answers.{SoundWithMemory, set_up_says, slot_says, let_g
 use Rattle.octets.specs.Reasons.Reason.{◌when◌}
 use Rattle.station.proofs.Asking.{complete-held}
 use Rattle.octets.proofs.Reasons.{NoneApplies}
+use Rattle.refusals.specs.declared.Refusal.{Refusal}
+use Rattle.refusals.specs.Refusals.{refuse}
+use Rattle.frame.specs.declared.Accepted.{Accepted}
 use Rattle.station.proofs.Decided.{Outcome, outcome, never}
 use Rattle.station.proofs.Fresh.{few-channels, whole-store, fresh-sized, fresh-sound, fresh-desks}
 

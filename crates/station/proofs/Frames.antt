@@ -1,7 +1,5 @@
 -- The frame call, case by case: what is lent, the state, the frame's refusals, what a frame that is not refused is walked with, and how few
 -- its events are. Assumes nothing.
-use Rattle.refusals.specs.declared.Refusal.{Refusal}
-use Rattle.refusals.specs.Refusals.{refuse}
 use Rattle.std.specs.Prelude.{Result, Ok, Err}
 use mathlib.Core.Path.{◌≡◌, refl, sym, ap, subst, ◌∙◌}
 use mathlib.Core.Bool.{true, false, not, ◌&&◌}
@@ -16,6 +14,8 @@ use Rattle.octets.specs.Each.{each}
 use Rattle.octets.specs.Number.{part}
 use Rattle.octets.proofs.Lists.{if-cases}
 use Rattle.octets.proofs.Tests.{and_left, and_right}
+use Rattle.refusals.specs.declared.Refusal.{Refusal}
+use Rattle.refusals.specs.Refusals.{refuse}
 use Rattle.frame.specs.declared.Accepted.{Accepted}
 use Rattle.frame.specs.Header.{derandomised, zone_of}
 use Rattle.frame.specs.Refusals.{examined}

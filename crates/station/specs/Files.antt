@@ -1,8 +1,8 @@
 -- A file read, told of, and let go. Assumes nothing.
-use Rattle.refusals.specs.declared.Refusal.{Refusal}
-use Rattle.refusals.specs.Refusals.{refuse}
 use Rattle.std.specs.Prelude.{Bool, true, false, not, ◌&&◌, List, [], ◌∷◌, ℕ, ◌-◌, ◌*◌, leb, ltb, eqb, length, if◌then◌else◌, Result, Ok, Err}
 use Rattle.octets.specs.Number.{part}
+use Rattle.refusals.specs.declared.Refusal.{Refusal}
+use Rattle.refusals.specs.Refusals.{refuse}
 use Rattle.facts.specs.declared.Facts.{Facts}
 use Rattle.transport.specs.Length.{transport_of, octets_of_bits}
 use Rattle.state.specs.declared.Station.{Station}

@@ -1,15 +1,15 @@
 -- The frame call. Assumes nothing.
-use Rattle.frame.specs.declared.Accepted.{Accepted}
-use Rattle.refusals.specs.declared.Refusal.{Refusal}
-use Rattle.refusals.specs.Refusals.{refuse}
 use Rattle.std.specs.Prelude.{Bool, not, ◌&&◌, List, ℕ, leb, length, get_or, take, if◌then◌else◌, Result, Ok, Err}
 use Rattle.octets.specs.Buffer.{put}
+use Rattle.refusals.specs.declared.Refusal.{Refusal}
+use Rattle.refusals.specs.Refusals.{refuse}
 use Rattle.frame.specs.declared.Channel.{Channel}
 use Rattle.frame.specs.Header.{derandomised, zone_of}
 use Rattle.frame.specs.Refusals.{examined}
 use Rattle.state.specs.declared.Station.{Station}
 use Rattle.state.specs.Decision.{is_sound, are_desks_sound}
 use Rattle.events.specs.Event.{flat}
+use Rattle.frame.specs.declared.Accepted.{Accepted}
 use Rattle.zone.specs.Walk.{Walked, walked}
 use Rattle.station.specs.SetUp.{desks_fit, channel_of}
 use Rattle.station.specs.Files.{store_fits}

@@ -11,6 +11,7 @@ ghost use Rattle.station.specs.SetUp.{set_up_gives, whole_blocks, channel_of, fr
 ghost use Rattle.station.specs.Files.{answered, store_fits};
 
 use frame::Channel;
+use refusals::Refusal;
 use state::{Desk, Station};
 use transport::Transport;
 
@@ -72,11 +73,10 @@ fn fresh_station(spacecraft: u8, channels: &[u8], blocks: u16) -> Station
 }
 
 // The answer of a refused set-up.
-fn not_set_up(answer: u8) -> Answered
-    ensures { result ≡ answered answer all_zero_state }
+fn not_set_up(refusal: Refusal) -> Answered
+    ensures { result ≡ answered refusal.0 all_zero_state }
 {
-    let station = Station::zero();
-    say(answer, station)
+    say(refusal.0, Station::zero())
 }
 
 // Whether the store lent is 1 to 4,096 whole blocks.
@@ -98,13 +98,13 @@ pub fn set_up(spacecraft: u8, channels: &[u8], desks: &mut [u8], store: &[u8]) -
     ensures { set_up_gives result.answer result.station desks.new ≡ set_up spacecraft channels.now desks.old store.now }
 {
     if !channels::good_channels(channels) {
-        return not_set_up(10);
+        return not_set_up(Refusal::CHANNELS);
     }
     if desks.len() != Desk::SIZE * channels.len() {
-        return not_set_up(1);
+        return not_set_up(Refusal::LENT);
     }
     if !whole_blocks(store) {
-        return not_set_up(1);
+        return not_set_up(Refusal::LENT);
     }
     let n = desks.len();
     octets::blank(desks, 0, n);

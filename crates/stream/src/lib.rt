@@ -9,6 +9,8 @@ ghost use Rattle.octets.specs.Number.{part};
 ghost use Rattle.stream.specs.Hunter.{begun_by};
 ghost use Rattle.stream.specs.Seek.{near, sought_in, quiet};
 
+use refusals::Refusal;
+
 // The hunter: whether it was begun, how many wrong bits a marker may have, how many octets wait, and the octets themselves, zeros after them.
 #[derive(Clone, Copy)]
 pub struct Hunter {
@@ -58,7 +60,7 @@ pub fn begin(k: u8) -> Begun
         };
     }
     Begun {
-        answer: 15,
+        answer: Refusal::WRONG_BITS.0,
         hunter: Hunter {
             begun: false,
             k: 0,

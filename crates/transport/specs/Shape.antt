@@ -1,8 +1,8 @@
 -- The shapes of a file's packets, by their sequence flags ("Packets", the two rules for a file). Assumes nothing.
-use Rattle.transport.specs.declared.Transport.{Transport}
 use Rattle.std.specs.Prelude.{Bool, false, not, ◌&&◌, List, ℕ, ◌+◌, leb, ltb, eqb, length, if◌then◌else◌, Option, Some, None}
 use Rattle.packet.specs.declared.Count.{Count}
 use Rattle.packet.specs.Kinds.{count_follows}
+use Rattle.transport.specs.declared.Transport.{Transport}
 use Rattle.transport.specs.Length.{transport_of, good_length, transport_size, need, rest}
 
 -- n octets of data in a packet of a file of length L, of which p packets were accepted, the last with the count `last`

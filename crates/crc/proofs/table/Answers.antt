@@ -6,20 +6,20 @@ use Rattle.octets.proofs.Table.{right, table-right}
 use Rattle.crc.specs.Crc.{bit, shifted, octet, crc_from}
 use Rattle.crc.proofs.table.Goals as goal
 
-pub returns-then-zeros-eq0 : goal.returns-then-zeros-eq0
+pub returns-in-0 : goal.returns-in-0
 unfolding right crc_from octet shifted bit
-returns-then-zeros-eq0 c = rw c.if-zeros-eq0.true (table-right _ 256 _ refl refl)
+returns-in-0 c = rw c.in-0.is (table-right _ 256 _ refl refl)
 
-pub returns-then-zeros-eq1 : goal.returns-then-zeros-eq1
+pub returns-in-1 : goal.returns-in-1
 unfolding right crc_from octet shifted bit
-returns-then-zeros-eq1 c = rw c.if-zeros-eq1.true (table-right _ 256 _ refl refl)
+returns-in-1 c = rw c.in-1.is (table-right _ 256 _ refl refl)
 
-pub returns-then-zeros-eq2 : goal.returns-then-zeros-eq2
+pub returns-in-2 : goal.returns-in-2
 unfolding right crc_from octet shifted bit
-returns-then-zeros-eq2 c = rw c.if-zeros-eq2.true (table-right _ 256 _ refl refl)
+returns-in-2 c = rw c.in-2.is (table-right _ 256 _ refl refl)
 
-pub returns : goal.returns
+pub returns-in_default : goal.returns-in_default
 unfolding right crc_from octet shifted bit
-returns c =
+returns-in_default c =
     let last : c.args.zeros ≡ 3 = omega arith in
     rw last (table-right _ 256 _ refl refl)

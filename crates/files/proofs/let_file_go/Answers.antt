@@ -1,8 +1,8 @@
 -- `let_file_go` meets its contract: each case of what `ask` tells is a clause of the definition. Assumes nothing.
-use Rattle.refusals.specs.declared.Refusal.{Refusal}
 use Rattle.std.specs.Prelude.{Result, Ok}
 use mathlib.Core.Path.{◌≡◌, refl, ap, ◌∙◌}
 use Prim.Native.Nat.{ℕ}
+use Rattle.refusals.specs.declared.Refusal.{Refusal}
 use Rattle.state.specs.declared.Station.{Station}
 use Rattle.station.specs.declared.LetGo.{LetGo}
 use Rattle.station.specs.declared.Held.{Held}

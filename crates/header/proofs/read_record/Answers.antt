@@ -1,9 +1,9 @@
 -- `header::read_record` meets its contract: the answer follows the judgement. Assumes nothing.
-use Rattle.refusals.specs.Refusals.{refuse}
 use mathlib.Core.Path.{sym, ap, ◌∙◌}
 use mathlib.Core.List.{List}
 use Prim.Native.Nat.{ℕ}
 use native.Mathlib.Omega.{arith}
+use Rattle.refusals.specs.Refusals.{refuse}
 use Rattle.refusals.proofs.Passing.{passed_on}
 use Rattle.records.specs.Table.{fixed_types}
 use Rattle.records.specs.Records.{header_says, header_of, records, nth}

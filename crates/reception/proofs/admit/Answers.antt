@@ -1,5 +1,4 @@
 -- `admit` meets its contract: each refusal in its turn, then those of the frame itself. Assumes nothing.
-use Rattle.refusals.specs.declared.Refusal.{Refusal}
 use Rattle.std.specs.Prelude.{Result, Ok}
 use mathlib.Core.Path.{◌≡◌, sym, ◌∙◌}
 use mathlib.Core.Bool.{true}
@@ -8,6 +7,7 @@ use Prim.Native.Nat.{ℕ}
 use borrow.Author.Rules.{rules}
 use lib.ListN.{take}
 use Rattle.octets.proofs.Lists.{unmap}
+use Rattle.refusals.specs.declared.Refusal.{Refusal}
 use Rattle.frame.specs.declared.Accepted.{Accepted}
 use Rattle.frame.specs.declared.Channel.{Channel}
 use Rattle.frame.specs.Header.{derandomised}

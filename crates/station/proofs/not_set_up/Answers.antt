@@ -2,4 +2,4 @@
 use Rattle.station.proofs.not_set_up.Goals as goal
 
 pub returns : goal.returns
-returns c = rw (c.say.ensures, c.zero-station.ensures)
+returns c = rw (c.say.ensures, c.zero.ensures)

@@ -1,6 +1,6 @@
 -- `text::line_end` meets its contract. Assumes nothing.
-use Rattle.text.proofs.Following.{octet}
 use borrow.Author.Rules.{rules}
+use Rattle.text.proofs.Following.{octet}
 use Rattle.text.proofs.line_end.Goals as goal
 
 pub returns : goal.returns

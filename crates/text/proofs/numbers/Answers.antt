@@ -1,6 +1,6 @@
 -- `text::numbers` meets its contract. Assumes nothing.
-use Rattle.text.proofs.Following.{behind}
 use borrow.Author.Rules.{rules}
+use Rattle.text.proofs.Following.{behind}
 use Rattle.text.proofs.numbers.Goals as goal
 
 pub returns : goal.returns
