@@ -72,11 +72,12 @@ fn by_tables(register: u16, octets: &[u8]) -> u16
     let one = table(1);
     let none = table(0);
     let mut c = register;
-    for four in octets.chunks_exact(4) {
-        let x = ((c >> 8) as u8) ^ four[0];
-        let y = ((c % 0x100) as u8) ^ four[1];
-        let z = four[2];
-        let w = four[3];
+    for k in 0..octets.len() / 4 {
+        let i = 4 * k;
+        let x = ((c >> 8) as u8) ^ octets[i];
+        let y = ((c % 0x100) as u8) ^ octets[i + 1];
+        let z = octets[i + 2];
+        let w = octets[i + 3];
         c = three[x as usize] ^ two[y as usize] ^ one[z as usize] ^ none[w as usize];
     }
     c

@@ -119,19 +119,21 @@ fn take_parts(
     ensures outcome { outcome_of head owner.new result desks.new store.new list.new ≡ framed (station_of head owner.old slots) desks.old store.old list.old octets.now }
 {
     let mut plain = [0u8; Frame::CODED];
-    match admit(head, owner, slots, desks, store, list, octets, &mut plain) {
-        Err(r) => Outcome {
-            answer: r.0,
-            events: 0,
-            desk: 0,
-            position: head.desks[0],
-            slots,
-        },
-        Ok(a) => {
-            let zone = &plain[Frame::ZONE_AT..Frame::UNIT];
-            take_accepted(a, head, owner, slots, zone, desks, store, list)
+    // A refusal goes back from here: one value for both answers would have the slots copied once more with every frame.
+    let a = match admit(head, owner, slots, desks, store, list, octets, &mut plain) {
+        Ok(a) => a,
+        Err(r) => {
+            return Outcome {
+                answer: r.0,
+                events: 0,
+                desk: 0,
+                position: head.desks[0],
+                slots,
+            };
         }
-    }
+    };
+    let zone = &plain[Frame::ZONE_AT..Frame::UNIT];
+    take_accepted(a, head, owner, slots, zone, desks, store, list)
 }
 
 // One frame. Answers 0 to 9; after 0 the events fill the list from its start.

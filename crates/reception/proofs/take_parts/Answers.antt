@@ -27,8 +27,8 @@ take_accepted-requires c =
     let (lent, desks) = walk-lent (sized i) (admits _ _ _ _ _ c.admit.ensures.value good) (zone-here _ (c.admit.ensures.plain_after _ good)) in
     record { lent = lent; desks_sound = desks }
 
-pub returns-in-Ok : goal.returns-in-Ok
-returns-in-Ok c =
+pub returns : goal.returns
+returns c =
     let good = c.in-Ok.is in
     let took = c.take_accepted.ensures in
     record {
