@@ -12,7 +12,7 @@ ghost use Rattle.script.specs.Follow.{ended};
 ghost use Rattle.chase.specs.Script.{payload_of};
 ghost use Rattle.chase.specs.Calls.{carried_out};
 ghost use Rattle.chase.specs.Printed.{printed};
-ghost use Rattle.chase.specs.Run.{chased, last_line};
+ghost use Rattle.chase.specs.Run.{at_start, chased, last_line};
 
 use script::{Command, Ended, Obeys};
 use std::io::{Stdin, Stdout};
@@ -52,18 +52,10 @@ impl Obeys for Memory {
     }
 }
 
-// The script, command by command.
-fn follow(mut output: Stdout, script: &[u8], owned: &mut Memory, out: &mut [u8]) -> Ended
+// The script, command by command, from a hunter and a buffer that are all zero: what is owned then, and the two numbers.
+fn follow(mut output: Stdout, script: &[u8], out: &mut [u8]) -> (Memory, Ended)
     requires { length out.old ≡ 86 }
-    ensures { ended owned.new result ≡ chased owned.old script.now }
-{
-    script::follow(owned, &mut output, script, out)
-}
-
-// A whole script, from a hunter and a buffer that are all zero. Its last line stands at the start of out, up to the place answered.
-fn run(output: Stdout, script: &[u8], out: &mut [u8]) -> usize
-    requires { length out.old ≡ 86 }
-    ensures { (result ≤ 86) × (take result out.new ≡ last_line script.now) }
+    ensures { ended result.0 result.1 ≡ chased at_start script.now }
 {
     let mut owned = Memory {
         hunter: Hunter {
@@ -74,7 +66,16 @@ fn run(output: Stdout, script: &[u8], out: &mut [u8]) -> usize
         },
         buffer: [0; BUFFER],
     };
-    let r = follow(output, script, &mut owned, out);
+    let r = script::follow(&mut owned, &mut output, script, out);
+    (owned, r)
+}
+
+// A whole script. Its last line stands at the start of out, up to the place answered.
+fn run(output: Stdout, script: &[u8], out: &mut [u8]) -> usize
+    requires { length out.old ≡ 86 }
+    ensures { (result ≤ 86) × (take result out.new ≡ last_line script.now) }
+{
+    let (_, r) = follow(output, script, out);
     r.line(out)
 }
 

@@ -13,7 +13,7 @@ ghost use Rattle.script.specs.Follow.{ended};
 ghost use Rattle.clerk.specs.Script.{payload_of};
 ghost use Rattle.clerk.specs.Calls.{carried_out};
 ghost use Rattle.clerk.specs.Printed.{printed};
-ghost use Rattle.clerk.specs.Run.{entered, last_line};
+ghost use Rattle.clerk.specs.Run.{from_nothing, last_line};
 
 use script::{Command, Ended, Obeys};
 use std::io::{Stdin, Stdout};
@@ -67,25 +67,26 @@ impl Obeys for Memory {
     }
 }
 
-// The script, command by command.
-fn follow(mut output: Stdout, script: &[u8], owned: &mut Memory, out: &mut [u8]) -> Ended
-    requires { (owned.old.lent ≤ 32768) × (length out.old ≡ 128) }
-    ensures { ended owned.new result ≡ entered owned.old script.now }
-{
-    script::follow(owned, &mut output, script, out)
-}
-
-// A whole script, from a buffer that is all zero. Its last line stands at the start of out, up to the place answered.
-fn run(output: Stdout, script: &[u8], out: &mut [u8]) -> usize
+// The script, command by command, from a buffer that is all zero: what is owned then, and the two numbers.
+fn follow(mut output: Stdout, script: &[u8], out: &mut [u8]) -> (Memory, Ended)
     requires { length out.old ≡ 128 }
-    ensures { (result ≤ 128) × (take result out.new ≡ last_line script.now) }
+    ensures { ended result.0 result.1 ≡ from_nothing script.now }
 {
     let mut owned = Memory {
         buffer: [0; BUFFER],
         lent: 0,
         used: 0,
     };
-    let r = follow(output, script, &mut owned, out);
+    let r = script::follow(&mut owned, &mut output, script, out);
+    (owned, r)
+}
+
+// A whole script. Its last line stands at the start of out, up to the place answered.
+fn run(output: Stdout, script: &[u8], out: &mut [u8]) -> usize
+    requires { length out.old ≡ 128 }
+    ensures { (result ≤ 128) × (take result out.new ≡ last_line script.now) }
+{
+    let (_, r) = follow(output, script, out);
     r.line(out)
 }
 

@@ -74,7 +74,9 @@ pub fn mix(from: &[u8], to: &mut [u8])
     ensures { to.new ≡ mixed from.now }
 {
     let table = Noise::table();
+    // All that is lent: a greater FRAME would be out of bounds, a smaller one would leave a period as it was.
+    let octets = &from[..Noise::FRAME];
     for k in 0..Noise::FRAME / Noise::PERIOD {
-        mix_period(from, to, k * Noise::PERIOD, &table);
+        mix_period(octets, to, k * Noise::PERIOD, &table);
     }
 }

@@ -16,12 +16,7 @@ use records::{Header, Image, Navigation, Primary, Segment, Time};
 fn magnitude(v: i32) -> u64
     ensures { result ≡ nat_abs v }
 {
-    if v < 0 {
-        let wide = v as i64;
-        let opposite = 0 - wide;
-        return opposite as u64;
-    }
-    v as u64
+    u64::from(v.unsigned_abs())
 }
 
 fn signed(v: i32, out: &mut [u8], at: usize) -> usize

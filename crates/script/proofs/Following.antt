@@ -7,15 +7,16 @@ use mathlib.Core.List.{List}
 use Prim.Native.Nat.{ℕ, zero, suc, ◌+◌, ◌-◌, ◌≤◌, ◌<◌}
 use native.Mathlib.Numerals.{add-one}
 use native.Mathlib.Omega.{arith}
-use borrow.Author.Tests.{lt-leb, leb-true}
+use borrow.Author.Tests.{lt-leb, le-leb, leb-true}
 use lib.Dec.{leb}
 use lib.ListN.{length, take, drop, length-drop}
 use lib.Seq.{drop-drop}
 use Rattle.octets.specs.Number.{part}
+use Rattle.octets.specs.Buffer.{put}
 use Rattle.octets.proofs.Lists.{whole_part}
 use Rattle.script.specs.declared.Command.{Command}
 use Rattle.script.specs.Script.{command_of}
-use Rattle.script.specs.Follow.{next_by, next_of, leaves, followed_in, followed}
+use Rattle.script.specs.Follow.{Followed, next_by, next_of, leaves, followed_in, followed, with_text, text_left}
 
 module _ (payload : Command → Option ℕ) where
   -- the command at place at, `&script[at..at + 16]`
@@ -23,6 +24,15 @@ module _ (payload : Command → Option ℕ) where
     pub next-short : length script - at < 16 → next_of payload (drop at script) ≡ None
     unfolding next_of
     next-short h = rw (lt-leb 16 (length (drop at script)) (omega (arith, length-drop at script)))
+
+    pub next-whole : {x : Command} {k : ℕ} → x ≡ command_of (take (at + 16 - at) (drop at script)) → Some k ≡ payload x
+        → at + 16 + k ≤ length script → Some (x, k) ≡ next_of payload (drop at script)
+    unfolding next_of
+    next-whole {x} {k} e q h =
+        let size : at + 16 - at ≡ 16 = omega arith in
+        let read : x ≡ command_of (take 16 (drop at script)) = rw size at e in
+        let there : 16 + k ≤ length (drop at script) = omega (arith, length-drop at script) in
+        sym (rw (le-leb 16 (length (drop at script)) (omega arith), ← read, ← q, le-leb (16 + k) (length (drop at script)) there))
 
   never : {x : Command} {k : ℕ} → ◌≡◌ {A = Option (Command × ℕ)} None (Some (x, k)) → ⊥
   never e = let z : ◌≡◌ {A = ℕ} 0 1 = cc in omega arith
@@ -118,3 +128,19 @@ module _ {payload : Command → Option ℕ} {M : Type 0} {does : Command → Lis
             enough = omega arith;
             gives = f ∙ goes payload does steps now n (drop at script) e ∙ rw (← told, drop-drop (16 + k) at script, place, add-one n);
           }
+
+-- the same of a buffer that each text is put in, at its start
+module _ {payload : Command → Option ℕ} {M : Type 0} (does : Command → List ℕ → M → M) (prints : Command → List ℕ → M → List ℕ)
+    {start now : M} {script before out : List ℕ} {n at : ℕ} (g : Following payload (with_text does prints) (start, before) script (now, out) n at) where
+  pub text-ends : next_of payload (drop at script) ≡ None → out ≡ text_left payload does prints start script before
+  unfolding text_left
+  text-ends e = ap (λ (o : Followed (M × List ℕ)). o.memory.1) (following-ends g refl e)
+
+  pub text-all : length script ≤ at → out ≡ text_left payload does prints start script before
+  text-all h = text-ends (next-short payload script at (omega arith))
+
+  pub text-more : {x : Command} {k : ℕ} {after : M} {text : List ℕ} → next_of payload (drop at script) ≡ Some (x, k)
+      → after ≡ does x (part (at + 16) (at + 16 + k - (at + 16)) script) now
+      → text ≡ put out 0 (prints x (part (at + 16) (at + 16 + k - (at + 16)) script) now)
+      → Following payload (with_text does prints) (start, before) script (after, text) (n + 1) (at + 16 + k)
+  text-more e a t = following-more g e (rw (a, t))

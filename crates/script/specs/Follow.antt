@@ -1,7 +1,8 @@
 -- A script that is read whole and followed command by command (docs/STREAM.md, docs/CATALOGUE.md): what a program owns, how many octets follow a
--- command of its table, and what a command does are parameters of everything here. Assumes nothing.
+-- command of its table, and what a command does and prints are parameters of everything here. Assumes nothing.
 use Rattle.std.specs.Prelude.{List, ℕ, zero, suc, ◌+◌, leb, length, take, drop, if◌then◌else◌, Option, Some, None}
 use Rattle.octets.specs.Number.{part}
+use Rattle.octets.specs.Buffer.{put}
 use Rattle.script.specs.declared.Command.{Command}
 use Rattle.script.specs.declared.whole.Ended.{Ended}
 use Rattle.script.specs.Script.{command_of}
@@ -38,6 +39,15 @@ followed_in payload does (suc steps) m n rest =
 -- a command has an octet at least, so that these steps are enough
 unfoldable pub followed : {M : Type 0} → (Command → Option ℕ) → (Command → List ℕ → M → M) → M → List ℕ → Followed M
 followed payload does m script = followed_in payload does (length script) m 0 script
+
+-- a command with a buffer at whose start its text is put: "what" of its row for what is owned, and "prints" for the buffer
+abbrev pub with_text : {M : Type 0} → (Command → List ℕ → M → M) → (Command → List ℕ → M → List ℕ) → Command → List ℕ → M × List ℕ → M × List ℕ
+with_text does prints x payload s = (does x payload s.0, put s.1 0 (prints x payload s.0))
+
+-- that buffer after a script: the texts of the commands carried out, each put over the one before; the command that ends the run "prints nothing"
+unfoldable pub text_left : {M : Type 0} → (Command → Option ℕ) → (Command → List ℕ → M → M) → (Command → List ℕ → M → List ℕ)
+    → M → List ℕ → List ℕ → List ℕ
+text_left payload does prints m script out = (followed payload (with_text does prints) (m, out) script).memory.1
 
 -- what a run answers, beside what it leaves of what is owned
 abbrev pub ended : {M : Type 0} → M → Ended → Followed M

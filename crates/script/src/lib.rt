@@ -3,7 +3,7 @@
 //
 // Owns Command, Obeys, what a program says of itself that follows one, and Run. Promises: a command is read as the page has it, limits too; M, P and Q
 // change what is held and the two buffers as specs/Memory.antt has it, and any octet and any field of the state can be set; a script leaves what
-// specs/Follow.antt has it leave, by what the program says that a command does.
+// specs/Follow.antt has it leave, by what the program says that a command does and prints.
 #![tactic(auto)]
 
 mod pokes;

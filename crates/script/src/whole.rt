@@ -1,10 +1,11 @@
 // A script that is read whole and followed command by command. What a program owns and what its commands do to that is the program's own matter: it
 // tells by `Obeys`.
-ghost use Rattle.std.specs.Prelude.{◌≡◌, ◌≤◌, List, ℕ, Option, Some, length, take, drop};
+ghost use Rattle.std.specs.Prelude.{◌≡◌, ◌≤◌, List, ℕ, Option, Some, length, drop};
+ghost use Rattle.octets.specs.Buffer.{put};
 ghost use Rattle.text.specs.Pieces.{Written};
 ghost use Rattle.lines.specs.Lines.{end_line};
 ghost use Rattle.script.specs.declared.Command.{Command};
-ghost use Rattle.script.specs.Follow.{next_of, followed, ended};
+ghost use Rattle.script.specs.Follow.{next_of, followed, text_left, ended};
 
 use crate::Command;
 use std::io::Write;
@@ -46,7 +47,7 @@ impl Ended {
     // The last line of a run. It stands at the start of out, up to the place answered.
     pub fn line(self, out: &mut [u8]) -> usize
         requires { 46 ≤ length out.old }
-        ensures { (result ≤ 46) × (take result out.new ≡ end_line self.commands self.unused) }
+        ensures { (result ≤ 46) × Written out.old 0 (end_line self.commands self.unused) out.new result }
     {
         lines::end_line(self.commands, self.unused, out, 0)
     }
@@ -81,13 +82,14 @@ fn obey<P: Obeys, W: Write>(
 )
     requires { P.Fits owned.old × (length out.old ≡ P.room) × (P.payload_of x ≡ Some (length payload.now)) }
     ensures memory_after { owned.new ≡ P.carried_out x payload.now owned.old }
+    ensures text_after { out.new ≡ put out.old 0 (P.printed x payload.now owned.old) }
     ensures fits { P.Fits owned.new }
 {
     let last = owned.carry_out(x, payload, out);
     pipes::write_all(output, &out[0..last]);
 }
 
-// The script, command by command.
+// The script, command by command. Each text is put at the start of out, and written from there.
 pub fn follow<P: Obeys, W: Write>(
     owned: &mut P,
     output: &mut W,
@@ -95,7 +97,8 @@ pub fn follow<P: Obeys, W: Write>(
     out: &mut [u8],
 ) -> Ended
     requires { P.Fits owned.old × (length out.old ≡ P.room) }
-    ensures { ended owned.new result ≡ followed P.payload_of P.carried_out owned.old script.now }
+    ensures memory_after { ended owned.new result ≡ followed P.payload_of P.carried_out owned.old script.now }
+    ensures text_after { out.new ≡ text_left P.payload_of P.carried_out P.printed owned.old script.now out.old }
 {
     let mut n: u64 = 0;
     let mut at: usize = 0;

@@ -2,14 +2,16 @@
 use mathlib.Core.Path.{refl, sym, ◌∙◌}
 use native.Mathlib.Omega.{arith}
 use borrow.Author.Rules.{rules}
-use Rattle.script.proofs.Following.{following-none, following-ends, following-all, following-there, following-said, following-more}
+use Rattle.script.proofs.Following.{following-none, following-ends, following-all, following-there, following-said, following-more, text-ends, text-all, text-more}
 use Rattle.script.proofs.whole.follow.Goals as goal
 
 pub loop-at-init : goal.loop-at-init
-loop-at-init g c = (following-none _ _ _ _, c.requires.0, search rules)
+loop-at-init g c = (following-none _ _ _ _, c.requires.0, search rules, following-none _ _ _ _)
 
 pub returns-in_default : goal.returns-in_default
-returns-in_default g c = following-ends c.loop-at.invariant.0 refl (sym c.fetch.ensures ∙ c.in_default.is)
+returns-in_default g c =
+    let none = sym c.fetch.ensures ∙ c.in_default.is in
+    record { memory_after = following-ends c.loop-at.invariant.0 refl none; text_after = text-ends _ _ c.loop-at.invariant.3 none }
 
 pub overflow_add-to : goal.overflow_add-to
 overflow_add-to g c = omega (arith, following-there c.loop-at.invariant.0 (sym c.fetch.ensures ∙ c.in-Some.is))
@@ -22,8 +24,17 @@ obey-requires g c = (c.loop-at.invariant.1, search rules, following-said c.loop-
 
 pub loop-at-preserved : goal.loop-at-preserved
 loop-at-preserved g c =
-    let done = c.obey.ensures in
-    (following-more c.loop-at.invariant.0 (sym c.fetch.ensures ∙ c.in-Some.is) done.memory_after, done.fits, search rules)
+    let next = sym c.fetch.ensures ∙ c.in-Some.is in
+    let done = c.obey.ensures in (
+      following-more c.loop-at.invariant.0 next done.memory_after,
+      done.fits,
+      search rules,
+      text-more _ _ c.loop-at.invariant.3 next done.memory_after done.text_after,
+    )
 
 pub returns : goal.returns
-returns g c = following-all c.loop-at.invariant.0 (omega arith)
+returns g c =
+    record {
+      memory_after = following-all c.loop-at.invariant.0 (omega arith);
+      text_after = text-all _ _ c.loop-at.invariant.3 (omega arith);
+    }
