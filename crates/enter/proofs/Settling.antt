@@ -6,7 +6,7 @@ use mathlib.Core.List.{List, [], ◌∷◌, ◌++◌, map}
 use Prim.Native.Nat.{ℕ, ◌+◌, ◌*◌, ◌<◌, ◌≤◌}
 use native.Mathlib.Omega.{arith}
 use borrow.Author.Tests.{le-leb, lt-leb, lt-ltb, le-ltb, eq-eqb, ne_eqb}
-use lib.Dec.{eqb}
+use lib.Dec.{leb, eqb}
 use lib.ListN.{length, take, drop, get_or, replicate}
 use Rattle.octets.specs.Number.{Octets}
 use Rattle.octets.specs.Buffer.{put}
@@ -29,6 +29,10 @@ use Rattle.catalogue.proofs.Counting.{low-channel}
 use Rattle.catalogue.proofs.Judging.{files-at, found-lies, found_none}
 use Rattle.enter.specs.Contract.{Stands, Settled}
 use Rattle.grow.proofs.Entering.{map-append, ready-length}
+
+-- the facts of an entry, where the first two tests are passed
+pub good-so : (e : Entry) → e.facts.channel.0 ≤ 62 → e.facts.application.0 ≤ 2015 → leb 1 e.facts.bits ≡ good_file (file_row e)
+good-so e h k = sym (rw (le-leb e.facts.channel.0 62 h, le-leb e.facts.application.0 2015 k))
 
 -- what was handed in is none
 module _ (b : List ℕ) (used : ℕ) (e : Entry) where

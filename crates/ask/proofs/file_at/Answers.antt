@@ -1,16 +1,16 @@
 -- `ask::file_at` meets its contract. Assumes nothing.
 use Rattle.std.proofs.lemmas.Option.{IfSome_then}
-use mathlib.Core.Path.{sym, ap, ◌∙◌}
+use mathlib.Core.Path.{◌∙◌}
+use Prim.Native.Nat.{◌<◌}
 use native.Mathlib.Omega.{arith}
 use borrow.Author.Rules.{rules}
-use lib.Dec.{ltb}
 use Rattle.refusals.proofs.Passing.{passed_on}
-use Rattle.catalogue.specs.Catalogue.{files_of}
+use Rattle.catalogue.specs.Catalogue.{file_widths, files_of}
 use Rattle.catalogue.specs.Reading.{Lies}
 use Rattle.catalogue.specs.Asking.{file_entry, file_asked}
 use Rattle.catalogue.proofs.Judging.{found-lies}
 use Rattle.catalogue.proofs.Asking.{file-count, file-stands}
-use Rattle.ask.proofs.Answered.{was-found, refused, answered}
+use Rattle.ask.proofs.Answered.{was-found, refused, answered, WasRead, read-at, told}
 use Rattle.ask.proofs.file_at.Goals as goal
 use Rattle.ask.proofs.file_at.Goals.{In_ok-at}
 
@@ -26,7 +26,8 @@ returns-in_err-at c =
 pub then-requires : goal.then-requires
 then-requires c t =
     let L = lies (goal.at.then-requires c).In_ok-at in
-    search (rules, L.second, L.third, L.ends)
+    let below : c.args.n < c.in_ok-at.at.files = omega (arith, told) in
+    omega (arith, L.second, L.third, L.ends)
 
 pub returns : goal.returns
 unfolding file_asked
@@ -34,7 +35,9 @@ returns c =
     let s = c.args.s.now in
     let n = c.args.n in
     let L = lies (goal.at.returns c).In_ok-at in
-    answered s c.places.ensures file_entry (files_of s) n c.in_ok-at.was c.then.result
-    (c.then.ensures.variant ∙ ap (ltb n) (sym (file-count L)))
-    (IfSome_then c.then.result c.then.ensures.some (λ x p. search rules))
+    answered s c.places.ensures file_entry (files_of s) n c.in_ok-at.was c.then.result c.then.ensures.variant
+    (λ g. omega (arith, told, file-count L)) (λ g. omega (arith, told, file-count L))
+    (IfSome_then c.then.result c.then.ensures.some (λ x p.
+    let w : WasRead file_entry file_widths s x = search rules in
+    read-at w (omega arith)))
     (λ h. file-stands L n (omega (arith, h, file-count L)))

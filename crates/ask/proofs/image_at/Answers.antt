@@ -1,16 +1,16 @@
 -- `ask::image_at` meets its contract. Assumes nothing.
 use Rattle.std.proofs.lemmas.Option.{IfSome_then}
-use mathlib.Core.Path.{sym, ap, ◌∙◌}
+use mathlib.Core.Path.{◌∙◌}
+use Prim.Native.Nat.{◌<◌}
 use native.Mathlib.Omega.{arith}
 use borrow.Author.Rules.{rules}
-use lib.Dec.{ltb}
 use Rattle.refusals.proofs.Passing.{passed_on}
-use Rattle.catalogue.specs.Catalogue.{images_of}
+use Rattle.catalogue.specs.Catalogue.{image_widths, images_of}
 use Rattle.catalogue.specs.Reading.{Lies}
 use Rattle.catalogue.specs.Asking.{image_entry, image_asked}
 use Rattle.catalogue.proofs.Judging.{found-lies}
 use Rattle.catalogue.proofs.Asking.{image-count, image-stands}
-use Rattle.ask.proofs.Answered.{was-found, refused, answered}
+use Rattle.ask.proofs.Answered.{was-found, refused, answered, WasRead, read-at, told}
 use Rattle.ask.proofs.image_at.Goals as goal
 use Rattle.ask.proofs.image_at.Goals.{In_ok-at}
 
@@ -26,7 +26,8 @@ returns-in_err-at c =
 pub then-requires : goal.then-requires
 then-requires c t =
     let L = lies (goal.at.then-requires c).In_ok-at in
-    search (rules, L.second, L.third, L.ends)
+    let below : c.args.n < c.in_ok-at.at.images = omega (arith, told) in
+    omega (arith, L.second, L.third, L.ends)
 
 pub returns : goal.returns
 unfolding image_asked
@@ -34,7 +35,9 @@ returns c =
     let s = c.args.s.now in
     let n = c.args.n in
     let L = lies (goal.at.returns c).In_ok-at in
-    answered s c.places.ensures image_entry (images_of s) n c.in_ok-at.was c.then.result
-    (c.then.ensures.variant ∙ ap (ltb n) (sym (image-count L)))
-    (IfSome_then c.then.result c.then.ensures.some (λ x p. search rules))
+    answered s c.places.ensures image_entry (images_of s) n c.in_ok-at.was c.then.result c.then.ensures.variant
+    (λ g. omega (arith, told, image-count L)) (λ g. omega (arith, told, image-count L))
+    (IfSome_then c.then.result c.then.ensures.some (λ x p.
+    let w : WasRead image_entry image_widths s x = search rules in
+    read-at w (omega arith)))
     (λ h. image-stands L n (omega (arith, h, image-count L)))

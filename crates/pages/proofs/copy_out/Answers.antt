@@ -18,10 +18,10 @@ loop-b-preserved c =
     let m = c.loop-b.invariant in
     elim c.if-owner-b.branch [
       | then-owner-b+then-skip-lt-BLOCK w ↦
-          rw (w.buffer-is, w.skip-is, w.done-is) (copying-on m (omega arith) w.if-owner-b.true _ (omega arith) w.least-size.ensures w.copy.ensures)
+          rw (w.buffer-is, w.skip-is, w.done-is) (copying-on m (omega arith) (omega arith) _ (omega arith) w.least-size.ensures w.copy.ensures)
       | then-owner-b+else-skip-lt-BLOCK w ↦
-          rw (w.buffer-is, w.skip-is, w.done-is) (copying-over m (omega arith) w.if-owner-b.true (omega arith))
-      | else-owner-b w ↦ rw (w.buffer-is, w.skip-is, w.done-is) (copying-past m (omega arith) w.if-owner-b.false)
+          rw (w.buffer-is, w.skip-is, w.done-is) (copying-over m (omega arith) (omega arith) (omega arith))
+      | else-owner-b w ↦ rw (w.buffer-is, w.skip-is, w.done-is) (copying-past m (omega arith) (λ q. omega arith))
     ]
 
 pub shape_of-buffer : goal.shape_of-buffer
