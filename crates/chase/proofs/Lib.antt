@@ -1,2 +1,3 @@
 -- Laws of the commands of a chase script.
 pub mod Hunting
+pub mod Start
